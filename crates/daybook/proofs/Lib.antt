@@ -1,2 +1,4 @@
 pub mod Ends
+pub mod Read
 pub mod Reading
+pub mod Written

@@ -16,7 +16,7 @@ use Rattle.pages.specs.Opening.{checked}
 use Rattle.pages.specs.declared.refusal.Refusal.{Refusal}
 use Rattle.daybook.specs.declared.error.FileError.{FileError}
 use Rattle.daybook.specs.declared.error.FileError.the-variants.{Refused}
-use Rattle.daybook.specs.File.{Parts, end-from, filings-in, numbers-in, pages-in, filings-start, reading, read-to, unless-refused}
+use Rattle.daybook.specs.File.{Parts, end-from, filings-in, numbers-in, pages-in, filings-start, reading, parts-to, read-to, unless-refused}
 
 -- as many bytes of pages as there are: the code stops at the end of the file
 pages-found : (bs : List ℕ) (k : ℕ) → 2 ≤ length bs → take (min (2 + k) (length bs) - 2) (drop 2 bs) ≡ take k (drop 2 bs)
@@ -30,7 +30,22 @@ pages-found bs k two-there =
         rw stop (take-all _ _ most ∙ sym (take-all _ _ all)))
     (cases-lt (2 + k) (length bs))
 
--- a file with two bytes and more, read up to where its pages stop
+-- what a file with two bytes and more says goes by its opening, then by the rest
+pub opening-first :
+    (bs : List ℕ) → 2 ≤ length bs →
+    reading bs ≡ unless-refused (checked (two bs 0) (pages-in bs)) (read-to bs (end-from (length bs) bs (filings-start bs)))
+opening-first bs two-there = cond-false (ltb (length bs) 2) _ _ (le-ltb _ _ two-there)
+
+pub read-whole :
+    (bs : List ℕ) (end : ℕ) → 2 ≤ length bs → checked (two bs 0) (pages-in bs) ≡ Ok tt →
+    end-from (length bs) bs (filings-start bs) ≡ Ok end → (length bs - (end + 1)) % 2 ≡ 0 → reading bs ≡ Ok (parts-to bs end)
+read-whole bs end two-there o e even =
+    opening-first bs two-there ∙
+    ap (λ x. unless-refused x (read-to bs (end-from (length bs) bs (filings-start bs)))) o ∙
+    ap (read-to bs) e ∙
+    cond-true (eqb ((length bs - (end + 1)) % 2) 0) _ _ (eq-eqb _ _ even)
+
+-- the same in the terms of the code, which reads the number of parcels and stops at the end of the file
 module _
   (bs : List ℕ) (parcels stop : ℕ) (two-there : 2 ≤ length bs) (is-parcels : parcels ≡ two bs 0)
   (is-stop : stop ≡ min (2 + 8 * parcels) (length bs)) where
@@ -40,16 +55,15 @@ module _
       pages-found bs (8 * parcels) two-there ∙
       ap (λ p. take (8 * p) (drop 2 bs)) is-parcels
 
-  opening-first :
-      reading bs ≡ unless-refused (checked parcels (take (stop - 2) (drop 2 bs))) (read-to bs (end-from (length bs) bs (filings-start bs)))
-  opening-first =
-      cond-false (ltb (length bs) 2) _ _ (le-ltb _ _ two-there) ∙
-      sym (ap (λ o. unless-refused o (read-to bs (end-from (length bs) bs (filings-start bs)))) (ap (checked parcels) pages-are ∙ ap (λ p. checked p (pages-in bs)) is-parcels))
+  opening-is : checked (two bs 0) (pages-in bs) ≡ checked parcels (take (stop - 2) (drop 2 bs))
+  opening-is = sym (ap (checked parcels) pages-are ∙ ap (λ p. checked p (pages-in bs)) is-parcels)
 
-  pub read-refused : (r : Refusal) → checked parcels (take (stop - 2) (drop 2 bs)) ≡ Err r → reading bs ≡ Err (Refused r)
-  read-refused r e = opening-first ∙ ap (λ o. unless-refused o (read-to bs (end-from (length bs) bs (filings-start bs)))) e
+  pub refused-by-code : (r : Refusal) → checked parcels (take (stop - 2) (drop 2 bs)) ≡ Err r → reading bs ≡ Err (Refused r)
+  refused-by-code r e =
+      opening-first bs two-there ∙
+      ap (λ o. unless-refused o (read-to bs (end-from (length bs) bs (filings-start bs)))) (opening-is ∙ e)
 
-  pub read-whole :
+  pub read-by-code :
       (end : ℕ) → checked parcels (take (stop - 2) (drop 2 bs)) ≡ Ok tt → end-from (length bs) bs (2 + 8 * parcels) ≡ Ok end →
       end < length bs → ((length bs - end) % 2 ≡ 0 → ⊥) →
       reading bs ≡ Ok (record {
@@ -58,12 +72,8 @@ module _
         filings = filings-in (take (end - (2 + 8 * parcels)) (drop (2 + 8 * parcels) bs));
         order = numbers-in (take (length bs - (end + 1)) (drop (end + 1) bs));
       })
-  read-whole end o e within odd =
-      let even : (length bs - (end + 1)) % 2 ≡ 0 = omega arith in
-      opening-first ∙
-      ap (λ x. unless-refused x (read-to bs (end-from (length bs) bs (filings-start bs)))) o ∙
-      ap (read-to bs) (ap (λ p. end-from (length bs) bs (2 + 8 * p)) (sym is-parcels) ∙ e) ∙
-      cond-true (eqb ((length bs - (end + 1)) % 2) 0) _ _ (eq-eqb _ _ even) ∙
+  read-by-code end o e within odd =
+      read-whole bs end two-there (opening-is ∙ o) (ap (λ p. end-from (length bs) bs (2 + 8 * p)) (sym is-parcels) ∙ e) (omega arith) ∙
       ap Ok (λ i. record {
         parcels = sym is-parcels i;
         pages = sym pages-are i;

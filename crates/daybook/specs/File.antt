@@ -76,17 +76,19 @@ pages-in bs = take (8 * two bs 0) (drop 2 bs)
 abbrev pub filings-start : List ℕ → ℕ
 filings-start bs = 2 + 8 * two bs 0
 
--- what is read once the filings are known to end at a place: the order is whole numbers
+-- what is read once the filings are known to end at a place; the order is whole numbers
+abbrev pub parts-to : List ℕ → ℕ → Parts
+parts-to bs end = record {
+  parcels = two bs 0;
+  pages = pages-in bs;
+  filings = filings-in (take (end - filings-start bs) (drop (filings-start bs) bs));
+  order = numbers-in (drop (end + 1) bs);
+}
+
 abbrev pub read-to : List ℕ → Result ℕ Malformed → Result Parts FileError
 read-to bs (Err m) = Err (fault.Malformed m)
 read-to bs (Ok end) =
-    cond (eqb ((length bs - (end + 1)) % 2) 0)
-    (Ok (record {
-      parcels = two bs 0;
-      pages = pages-in bs;
-      filings = filings-in (take (end - filings-start bs) (drop (filings-start bs) bs));
-      order = numbers-in (drop (end + 1) bs);
-    }))
+    cond (eqb ((length bs - (end + 1)) % 2) 0) (Ok (parts-to bs end))
     (Err (fault.Malformed (malformed Number (length bs - 1))))
 
 -- the opening is looked at before the rest

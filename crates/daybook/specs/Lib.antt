@@ -1,1 +1,3 @@
+pub mod Error
 pub mod File
+pub mod Laws

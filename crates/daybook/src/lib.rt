@@ -1,3 +1,4 @@
 // The day book: the file that the programs read, taken apart.
 pub mod error;
 pub mod file;
+pub mod laws;

@@ -1,6 +1,8 @@
 // Why a request is turned away. What is turned away has changed nothing.
 ghost use mathlib.Core.Path.{_≡_};
-ghost use Rattle.pages.specs.Refusal.{number-of, place-of};
+ghost use Rattle.std.specs.declared.option.Option.the-variants.{Some};
+ghost use Rattle.pages.specs.Refusal.{number-of, place-of, refusal-text};
+use std::fmt;
 
 #[derive(Clone, Copy, PartialEq, Eq, Debug)]
 pub enum Refusal {
@@ -31,5 +33,15 @@ impl Refusal {
             Refusal::Pages(bytes) => bytes,
             Refusal::Area(parcel) => parcel as usize,
         }
+    }
+}
+
+pub impl fmt::Display for Refusal as RefusalDisplay {
+    ghost shown = { λ r. Some (refusal-text r) };
+
+    fn fmt<W: fmt::Write>(&self, f: &mut fmt::Formatter<W>) -> fmt::Result {
+        let number = self.number();
+        let place = self.place();
+        write!(f, "{number} at {place}")
     }
 }

@@ -2,7 +2,7 @@ use mathlib.Core.Path.{_≡_, sym, ap, _∙_}
 use native.Mathlib.Omega.{arith}
 use borrow.Author.Needs.{needs}
 use Rattle.pages.specs.Opening.{fits, checked, areas-checked}
-use Rattle.pages.proofs.Areas.{areas-fit, areas-refused}
+use Rattle.pages.proofs.Openings.{areas-fit, areas-refused}
 use Rattle.pages.proofs.opening.check_opening.Needs as need
 
 pub returns-then-not-area-fits : need.returns-then-not-area-fits
