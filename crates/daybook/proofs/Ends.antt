@@ -32,8 +32,8 @@ enough (suc n) zero bs place h k = cond-true (leb (length bs) place) _ _ (le-leb
 enough (suc n) (suc m) bs place h k =
     last-way (leb (length bs) place) (eqb (byte bs place) 0) (leb (length bs - place) (byte bs place)) _ _ _ _ _
     (λ a b c.
-        let inside = leb-false (length bs) place a in
-        enough n m bs (place + (1 + byte bs place)) (omega arith) (omega arith))
+    let inside = leb-false (length bs) place a in
+    enough n m bs (place + (1 + byte bs place)) (omega arith) (omega arith))
 
 -- one step: at the byte 0, at a filing that is cut off, and past a filing
 pub at-end : (n : ℕ) (bs : List ℕ) (place : ℕ) → place < length bs → length bs - place ≤ n → byte bs place ≡ 0 → end-from n bs place ≡ Ok place

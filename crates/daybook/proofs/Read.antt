@@ -62,21 +62,21 @@ row-more bs place end inside whole-filing r =
     let later = r .from in
     let ys : List ℕ = take (b + (end - next)) (drop (place + 1) bs) in
     let front : take (end - place) (drop place bs) ≡ b ∷ ys =
-        let size : end - place ≡ suc (b + (end - next)) = omega arith in
-        (λ i. take (size i) (drop-more bs place 0 inside i))
+    let size : end - place ≡ suc (b + (end - next)) = omega arith in
+    (λ i. take (size i) (drop-more bs place 0 inside i))
     in
     let enough : b ≤ length (drop (place + 1) bs) = simp length-drop (omega arith) in
     let filing : length (take b ys) ≡ b = ap length (take-take b (b + (end - next)) (drop (place + 1) bs) (omega arith)) ∙ length-take-le b (drop (place + 1) bs) enough in
     let behind : drop b ys ≡ take (end - next) (drop next bs) =
-        drop-take b (end - next) (drop (place + 1) bs) ∙
-        ap (take (end - next)) (drop-drop b (place + 1) bs ∙ ap (λ k. drop k bs) (omega arith))
+    drop-take b (end - next) (drop (place + 1) bs) ∙
+    ap (take (end - next)) (drop-drop b (place + 1) bs ∙ ap (λ k. drop k bs) (omega arith))
     in
     record {
       from = omega arith;
       within = r .within;
       stop = r .stop;
       whole = λ n h. subst (λ l. joined after-length (cut n l) ≡ l) (sym front) (again n b ys (end - next) (omega arith) filing
-        (λ m k. subst (λ l. joined after-length (cut m l) ≡ l) (sym behind) (r .whole m k)));
+          (λ m k. subst (λ l. joined after-length (cut m l) ≡ l) (sym behind) (r .whole m k)));
     }
   where
     again :
@@ -160,7 +160,7 @@ written-if-read bs p bytes e =
     let within = w .row .within in
     let filings : joined after-length (filings-in region) ≡ region = w .row .whole (length region) (simp (length-take, length-drop) (omega arith)) in
     let order : joined two-bytes (numbers-in (drop (end + 1) bs)) ≡ drop (end + 1) bs =
-        numbers-read (drop (end + 1) bs) (all-drop (λ b. b < 256) (end + 1) bs bytes) (simp length-drop (w .even))
+    numbers-read (drop (end + 1) bs) (all-drop (λ b. b < 256) (end + 1) bs bytes) (simp length-drop (w .even))
     in
     let stop : 0 ∷ drop (end + 1) bs ≡ drop end bs = ap (λ b. b ∷ drop (end + 1) bs) (sym (w .row .stop)) ∙ sym (drop-more bs end 0 within) in
     let behind : drop (end - start) (drop start bs) ≡ drop end bs = drop-drop (end - start) start bs ∙ ap (λ k. drop k bs) (omega arith) in

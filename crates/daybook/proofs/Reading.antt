@@ -24,10 +24,10 @@ pages-found bs k two-there =
     ⊎-elim
     (λ short. ap (λ n. take n (drop 2 bs)) (omega arith))
     (λ (long : length bs ≤ 2 + k).
-        let stop : min (2 + k) (length bs) - 2 ≡ length bs - 2 = omega arith in
-        let all : length (drop 2 bs) ≤ k = simp length-drop (omega arith) in
-        let most : length (drop 2 bs) ≤ length bs - 2 = simp length-drop (omega arith) in
-        rw stop (take-all _ _ most ∙ sym (take-all _ _ all)))
+    let stop : min (2 + k) (length bs) - 2 ≡ length bs - 2 = omega arith in
+    let all : length (drop 2 bs) ≤ k = simp length-drop (omega arith) in
+    let most : length (drop 2 bs) ≤ length bs - 2 = simp length-drop (omega arith) in
+    rw stop (take-all _ _ most ∙ sym (take-all _ _ all)))
     (cases-lt (2 + k) (length bs))
 
 -- what a file with two bytes and more says goes by its opening, then by the rest
@@ -47,8 +47,8 @@ read-whole bs end two-there o e even =
 
 -- the same in the terms of the code, which reads the number of parcels and stops at the end of the file
 module _
-  (bs : List ℕ) (parcels stop : ℕ) (two-there : 2 ≤ length bs) (is-parcels : parcels ≡ two bs 0)
-  (is-stop : stop ≡ min (2 + 8 * parcels) (length bs)) where
+    (bs : List ℕ) (parcels stop : ℕ) (two-there : 2 ≤ length bs) (is-parcels : parcels ≡ two bs 0)
+    (is-stop : stop ≡ min (2 + 8 * parcels) (length bs)) where
   pages-are : take (stop - 2) (drop 2 bs) ≡ pages-in bs
   pages-are =
       ap (λ s. take (s - 2) (drop 2 bs)) is-stop ∙

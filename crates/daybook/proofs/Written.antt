@@ -75,16 +75,16 @@ reads-what-is-written p good some =
     let end : ℕ = length pre + length fs in
     let sizes : length bs ≡ length pre + (length fs + (1 + length order)) = simp length-append (omega arith) in
     let ends : end-from (length bs) bs (filings-start bs) ≡ Ok end =
-        ap (end-from (length bs) bs) start ∙ row-end (p .filings) pre order (length bs) some (omega arith)
+    ap (end-from (length bs) bs) start ∙ row-end (p .filings) pre order (length bs) some (omega arith)
     in
     let all : take (end - filings-start bs) (drop (filings-start bs) bs) ≡ fs =
-        ap (take (end - filings-start bs)) (drop-at pre (fs ++ 0 ∷ order) (filings-start bs) (omega arith)) ∙ take-at fs (0 ∷ order) (end - filings-start bs) (omega arith)
+    ap (take (end - filings-start bs)) (drop-at pre (fs ++ 0 ∷ order) (filings-start bs) (omega arith)) ∙ take-at fs (0 ∷ order) (end - filings-start bs) (omega arith)
     in
     let behind : bs ≡ (pre ++ (fs ++ 0 ∷ [])) ++ order =
-        sym (append-assoc pre (fs ++ 0 ∷ []) order ∙ ap (λ l. pre ++ l) (append-assoc fs (0 ∷ []) order))
+    sym (append-assoc pre (fs ++ 0 ∷ []) order ∙ ap (λ l. pre ++ l) (append-assoc fs (0 ∷ []) order))
     in
     let last : drop (end + 1) bs ≡ order =
-        ap (drop (end + 1)) behind ∙ drop-at (pre ++ (fs ++ 0 ∷ [])) order (end + 1) (simp length-append (omega arith))
+    ap (drop (end + 1)) behind ∙ drop-at (pre ++ (fs ++ 0 ∷ [])) order (end + 1) (simp length-append (omega arith))
     in
     let even = pairs (p .order) in
     read-whole bs end (omega arith) ((λ i. checked (parcels i) (pages i)) ∙ good) ends (omega arith) ∙

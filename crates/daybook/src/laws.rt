@@ -5,5 +5,4 @@ ghost use Rattle.daybook.specs.Laws.{Reads-what-is-written, Written-if-read};
 pub fn reads_what_is_written()
     ensures reads { λ _. ⌜ Reads-what-is-written ⌝ }
     ensures writes { λ _. ⌜ Written-if-read ⌝ }
-{
-}
+{}

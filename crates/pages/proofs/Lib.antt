@@ -1,1 +1,4 @@
 pub mod Openings
+pub mod Reading
+pub mod Registers
+pub mod Writing

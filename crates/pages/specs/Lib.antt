@@ -1,3 +1,5 @@
 pub mod Bytes
 pub mod Opening
 pub mod Refusal
+pub mod Register
+pub mod Words

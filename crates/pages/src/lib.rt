@@ -2,3 +2,5 @@
 pub mod bytes;
 pub mod opening;
 pub mod refusal;
+pub mod register;
+pub mod words;

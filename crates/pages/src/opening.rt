@@ -5,6 +5,7 @@ use crate::bytes::four_at;
 use crate::refusal::Refusal;
 
 pub const MOST_PARCELS: u16 = 1024;
+
 pub const MOST_AREA: u32 = 1_000_000_000;
 
 fn area_fits(area: u32) -> bool

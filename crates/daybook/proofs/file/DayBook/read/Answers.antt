@@ -9,11 +9,11 @@ returns-in-Break-check-opening c =
     let p = err-from-errBy (c .from-residual .result) (c .from-residual .ensures .1) in
     rw (p .1, p .2)
     (sym (refused-by-code (c .args .bytes .now) _ _ (omega arith) (c .two-at-parcels .ensures) (c .min .ensures) _
-        (sym (c .check-opening .ensures) ∙ c .in-Break-check-opening .was tt)))
+    (sym (c .check-opening .ensures) ∙ c .in-Break-check-opening .was tt)))
 
 pub returns : need.returns
 returns c =
     sym (read-by-code (c .args .bytes .now) _ _ (omega arith) (c .two-at-parcels .ensures) (c .min .ensures) (c .in-Continue-end .end)
-        (sym (c .check-opening .ensures) ∙ c .in-Continue-check-opening .was tt)
-        (sym (c .filings-end .ensures .value) ∙ c .in-Continue-end .was tt)
-        (c .in-Continue-end .ensures tt .within .1) (c .if-bytes-end-eq0 .left))
+    (sym (c .check-opening .ensures) ∙ c .in-Continue-check-opening .was tt)
+    (sym (c .filings-end .ensures .value) ∙ c .in-Continue-end .was tt)
+    (c .in-Continue-end .ensures tt .within .1) (c .if-bytes-end-eq0 .left))

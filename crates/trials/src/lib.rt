@@ -1,0 +1,5 @@
+// Tests at the edges of what is taken and refused, a module for each layer.
+#[cfg(test)]
+mod files;
+#[cfg(test)]
+mod openings;
