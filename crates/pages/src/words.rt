@@ -1,10 +1,9 @@
 // A page as words of memory, one field to a word, and back. Reading takes any words: each field is cut to its type.
 ghost use mathlib.Core.Path.{_≡_};
-ghost use mathlib.Core.List.{_++_};
-ghost use Prim.Native.Nat.{_≤_, _<_, _+_, _*_, _^_};
-ghost use lib.ListN.{length, take, drop};
+ghost use Prim.Native.Nat.{min, _≤_, _<_, _^_};
+ghost use lib.ListN.{length, getD, take};
 ghost use Rattle.entries.specs.Sheet.{sheet};
-ghost use Rattle.pages.specs.Words.{entry-in, entries-in, Fits-entry, Fits-sheet, flag, head-words, place-words, sheet-in, sheet-words};
+ghost use Rattle.pages.specs.Words.{entry-in, entries-in, Fits-entry, Fits-sheet, head-words, place-words, sheet-in, sheet-words};
 use entries::entry::BLANK;
 use entries::entry::Claim;
 use entries::entry::Entry;
@@ -43,12 +42,20 @@ fn entries_in(words: &[u64], count: usize) -> [Entry; MOST_ENTRIES]
     entries
 }
 
+// Words may say anything, and a page has at most 32 entries.
+fn count_in(words: &[u64]) -> usize
+    requires { ⌜ length (now words) ≡ 132 ⌝ }
+    ensures { λ r. ⌜ r ≡ min (getD (now (words .entry)) 3 0) 32 ⌝ }
+{
+    words[3].min(32) as usize
+}
+
 // The page in 132 words.
 pub(crate) fn page_in(words: &[u64]) -> Page
     requires { ⌜ length (now words) ≡ 132 ⌝ }
     ensures { λ r. ⌜ sheet r ≡ sheet-in (now (words .entry)) ⌝ }
 {
-    let count = words[3].min(32) as usize;
+    let count = count_in(words);
     Page {
         live: words[0] == 1,
         owner: (words[1] % 0x1_0000_0000) as u32,

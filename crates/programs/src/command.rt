@@ -6,7 +6,7 @@ use std::io::Read;
 
 // The words behind the program's name.
 #[derive(Drop)]
-pub enum Command {
+pub(crate) enum Command {
     Help,
     Version,
     // the file to read; standard input where none is named
@@ -14,7 +14,7 @@ pub enum Command {
 }
 
 // What a program's words ask for; its usage is the error where they make no sense.
-pub fn asked(rt: &LibcRuntime, usage: &str) -> Result<Command, AnyError> {
+pub(crate) fn asked(rt: &LibcRuntime, usage: &str) -> Result<Command, AnyError> {
     let mut words = env::args(rt)?;
     let _ = words.next();
     let Some(word) = words.next() else {
@@ -32,7 +32,7 @@ pub fn asked(rt: &LibcRuntime, usage: &str) -> Result<Command, AnyError> {
 }
 
 // The bytes of the file that was named, or of standard input.
-pub fn input(rt: &LibcRuntime, file: Option<String>) -> Result<Vec<u8>, AnyError> {
+pub(crate) fn input(rt: &LibcRuntime, file: Option<String>) -> Result<Vec<u8>, AnyError> {
     let Some(name) = file else {
         let mut bytes = Vec::new(rt.alloc());
         rt.stdin().read_to_end(&mut bytes)?;

@@ -1,3 +1,3 @@
 // What the programs do between reading and printing. Their mains only call these, so that each can be run on more than one input.
-pub mod command;
+mod command;
 pub mod work;
