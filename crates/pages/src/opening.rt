@@ -3,7 +3,7 @@ ghost use mathlib.Core.Path.{_≡_};
 ghost use Prim.Native.Nat.{_≤_};
 ghost use Rattle.entries.specs.Sheet.{sheet};
 ghost use Rattle.pages.specs.Register.{page-at, room};
-ghost use Rattle.pages.specs.Opening.{fits, area-in, checked, opened-page, opened-words, opening, register-opened, words-opened};
+ghost use Rattle.pages.specs.Opening.{fits, owner-in, area-in, checked, opened-page, opened-words, opening, register-opened, words-opened};
 use crate::bytes::four_at;
 use crate::refusal::Lent;
 use crate::refusal::Refusal;
@@ -19,6 +19,12 @@ fn area_fits(area: u32) -> bool
     ensures { λ r. ⌜ r ≡ fits area ⌝ }
 {
     area >= 1 && area <= MOST_AREA
+}
+
+fn owner_at(pages: &[u8], parcel: u16) -> u32
+    ensures { λ r. ⌜ r ≡ owner-in (now (pages .entry)) parcel ⌝ }
+{
+    four_at(pages, 8 * parcel as u32)
 }
 
 fn area_at(pages: &[u8], parcel: u16) -> u32
@@ -52,8 +58,9 @@ fn opened_page(parcels: u16, pages: &[u8], parcel: usize) -> Page
     if parcel >= parcels as usize {
         return Page::vacant(false, 0, 0);
     }
-    let owner = four_at(pages, 8 * parcel as u32);
-    let area = four_at(pages, 8 * parcel as u32 + 4);
+    let parcel = parcel as u16;
+    let owner = owner_at(pages, parcel);
+    let area = area_at(pages, parcel);
     Page::vacant(true, owner, area as u64)
 }
 
