@@ -9,9 +9,9 @@ use lib.Dec.{eqb}
 use lib.ListN.{length}
 use Rattle.std.specs.Orderings.{Decides}
 use Rattle.std.proofs.shelf.Lists.{length-push}
-use Rattle.std.proofs.shelf.Tests.{and-from, and-parts, cases-bool, eq-eqb, eqb-true}
+use Rattle.std.proofs.shelf.Tests.{and-from, and-parts, cases-bool, eq-eqb, eqb-true, true≢false}
 use Rattle.entries.specs.Laws.{What-stands, Others-unchanged, Numbers-that-stand, Stays-distinct, Stays-below, How-many, Nothing-new-ahead, Rank-no-worse, Order-kept}
-use Rattle.entries.specs.Order.{Other, same, same-claim, distinct, all-below}
+use Rattle.entries.specs.Order.{Other, alike, same, same-claim, distinct, all-below}
 use Rattle.entries.specs.Rank.{any, is, is-reserved, reserves, charge, ahead, filled, released, numbers}
 use Rattle.entries.specs.declared.entry.Claim.{Claim}
 use Rattle.entries.specs.declared.entry.Claim.the-variants.{Charge, Reserved}
@@ -75,6 +75,18 @@ same-itself e =
 pub same-decides : (e f : Entry) → Decides (same e f) (e ≡ f)
 same-decides e f = (same-from e f, λ p. subst (λ (g : Entry). same e g ≡ true) p (same-itself e))
 
+pub alike-decides : (es fs : List Entry) → Decides (alike es fs) (es ≡ fs)
+unfolding alike
+alike-decides [] [] = (λ y. refl, λ e. refl)
+alike-decides [] (f ∷ fs) = (λ y. absurd (true≢false (sym y)), λ e. absurd (let z : _≡_ {A = ℕ} 0 1 = cc in omega arith))
+alike-decides (e ∷ es) [] = (λ y. absurd (true≢false (sym y)), λ p. absurd (let z : _≡_ {A = ℕ} 0 1 = cc in omega arith))
+alike-decides (e ∷ es) (f ∷ fs) =
+    let here = same-decides e f in
+    let rest = alike-decides es fs in (
+      λ y. let both = and-parts _ _ y in let p = here .0 (both .0) in let q = rest .0 (both .1) in (λ i. p i ∷ q i),
+      λ p. let q : e ≡ f = cc in let r : es ≡ fs = cc in and-from _ _ (here .1 q) (rest .1 r),
+    )
+
 -- an entry that does not answer a test is none that does
 pub unlike-apart : (t : Entry → Bool) (e : Entry) → t e ≡ false → Apart t (same e)
 unlike-apart t e differs f y = ⊎-elim (λ b. let p = same-from e f b in cc) (λ n. n) (cases-bool (same e f))
@@ -100,6 +112,7 @@ what-stands = record {
 pub others-unchanged : Others-unchanged
 others-unchanged = record {
   decides = same-decides;
+  decides-all = alike-decides;
   append = λ e new es. any-push (same e) new es;
   fill = λ e j i m es differs. any-changed (is-reserved j i) (same e) (charge j i m) (charge-unlike e j i m differs) es;
   fill-keeps = λ e j i m es differs. changed-keeps (is-reserved j i) (same e) (charge j i m) (unlike-apart (is-reserved j i) e differs) es;

@@ -6,7 +6,7 @@ use Prim.Native.Nat.{ℕ, _+_, _≤_}
 use lib.Dec.{ltb}
 use lib.ListN.{length}
 use Rattle.std.specs.Orderings.{Decides}
-use Rattle.entries.specs.Order.{Other, same, stands, member, distinct, all-below, follower, before}
+use Rattle.entries.specs.Order.{Other, alike, same, stands, member, distinct, all-below, follower, before}
 use Rattle.entries.specs.Rank.{is, is-reserved, any, has, has-reserved, ahead, charge, filled, released, postponed, numbers}
 use Rattle.entries.specs.declared.entry.Entry.{Entry}
 
@@ -20,6 +20,7 @@ pub record What-stands : Type 0 where
 -- what is done to one entry leaves every other as it was, in number, holder, kind and amount
 pub record Others-unchanged : Type 0 where
   pub decides : (e f : Entry) → Decides (same e f) (e ≡ f)
+  pub decides-all : (es fs : List Entry) → Decides (alike es fs) (es ≡ fs)
   pub append : (e new : Entry) (es : List Entry) → stands e (es ++ new ∷ []) ≡ (stands e es || same e new)
   pub fill : (e : Entry) (j i m : ℕ) (es : List Entry) → is j i e ≡ false → stands e (filled j i m es) ≡ stands e es
   pub fill-keeps : (e : Entry) (j i m : ℕ) (es : List Entry) → is-reserved j i e ≡ false → stands e es ≡ true → stands e (filled j i m es) ≡ true

@@ -22,6 +22,13 @@ same-claim Reserved Reserved = true
 abbrev pub same : Entry → Entry → Bool
 same e f = is (e .number) (e .holder) f && same-claim (e .claim) (f .claim)
 
+-- the same entries in the same rank
+unfoldable pub alike : List Entry → List Entry → Bool
+alike [] [] = true
+alike [] (f ∷ fs) = false
+alike (e ∷ es) [] = false
+alike (e ∷ es) (f ∷ fs) = same e f && alike es fs
+
 -- this very entry is on the page, with its number, holder, kind and amount
 abbrev pub stands : Entry → List Entry → Bool
 stands e es = any (same e) es

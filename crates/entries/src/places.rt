@@ -1,12 +1,12 @@
 // What is done at one place of a page. A place is counted from 0, the best rank, and stands below the count.
 ghost use Prim.Native.Nat.{_<_};
+ghost use Rattle.entries.specs.Order.{alike};
 ghost use Rattle.entries.specs.Places.{First};
 ghost use Rattle.entries.specs.Rank.{any, is-sought, with-entries};
 ghost use Rattle.entries.specs.Sheet.{sheet};
 ghost use Rattle.std.specs.Finite.{nth};
 ghost use Rattle.std.specs.Holes.{removed, exchanged};
 ghost use Rattle.std.specs.Options.{Cases};
-ghost use Rattle.std.specs.Orderings.{Decides};
 ghost use Rattle.std.specs.declared.option.Option.the-variants.{Some};
 ghost use lib.ListN.{length, set};
 ghost use mathlib.Core.Bool.{false};
@@ -30,7 +30,7 @@ fn is_sought(entry: Entry, number: u16, holder: u32, only_reserved: bool) -> boo
 }
 
 pub(crate) fn same(a: &[Entry], b: &[Entry]) -> bool
-    ensures { λ r. ⌜ Decides r (now (a .entry) ≡ now (b .entry)) ⌝ }
+    ensures { λ r. ⌜ r ≡ alike (now (a .entry)) (now (b .entry)) ⌝ }
 {
     a == b
 }

@@ -1,8 +1,8 @@
 // What a page says. The first of several entries of one number and holder is the one that is meant.
+ghost use Rattle.entries.specs.Order.{alike};
 ghost use Rattle.entries.specs.Rank.{is, place};
 ghost use Rattle.entries.specs.Sheet.{sheet};
 ghost use Rattle.std.specs.Finite.{nth};
-ghost use Rattle.std.specs.Orderings.{Decides};
 ghost use lib.ListN.{length};
 ghost use mathlib.Core.Path.{_≡_};
 use crate::entry::Entry;
@@ -53,7 +53,7 @@ impl Page {
 
     // Whether number, holder, kind, amount and rank of every entry are the same.
     pub fn same_entries(&self, other: &Page) -> bool
-        ensures { λ r. ⌜ Decides r (sheet (now (self .entry)) .entries ≡ sheet (now (other .entry)) .entries) ⌝ }
+        ensures { λ r. ⌜ r ≡ alike (sheet (now (self .entry)) .entries) (sheet (now (other .entry)) .entries) ⌝ }
     {
         same(self.standing(), other.standing())
     }
