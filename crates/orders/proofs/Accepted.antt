@@ -13,14 +13,14 @@ use Rattle.std.specs.declared.option.Option.the-variants.{Some, None}
 use Rattle.orders.specs.Desk.{Desk, Answer, absent, finished, waits, ready, is-open, open-at, all-open, shares-with, in-way, way-from, unless-waits, if-open, if-there, asked, worked-on, if-ready, work, is-ready, accepted}
 use Rattle.orders.specs.Laws.{Lawful-is-accepted, Accepted-is-lawful, Never-stuck}
 use Rattle.orders.specs.Orders.{Numbered, Holds, here, there, Before, first, later, Single, none, one, Apart, Lawful, numbered, numbers-of}
-use Rattle.orders.specs.Steps.{Steps}
+use Rattle.orders.specs.Steps.{Acts, Local}
 use Rattle.orders.proofs.Kept.{Ready}
 use Rattle.orders.proofs.Places.{nth-none, nth-set-same, nth-set-other, nth-some}
 use Rattle.orders.proofs.Reached.{ready-means}
 use Rattle.orders.proofs.Exchanges.{exchanged-sym, holds-exchanged}
 use Rattle.orders.proofs.Lawfuls.{Inserted, at, past, taken-out, inserted-length, other-holds, before-second, lawful-is-exchanged}
 
-module _ {Page Act Result : Type 0} (w : Steps Page Act Result) where
+module _ {Page Act Result : Type 0} (w : Acts Page Act Result) (local : Local w) where
   -- WHAT IS READY IS WORKED
 
   way-clear : (d : Desk Page Act Result) (n : ℕ) (a : Act) (i k : ℕ) → ((j : ℕ) → i ≤ j → j < i + k → in-way w d n a j ≡ false) → way-from w d n a i k ≡ None
@@ -29,7 +29,7 @@ module _ {Page Act Result : Type 0} (w : Steps Page Act Result) where
   way-clear d n a i (suc k) clear =
       cond-false (in-way w d n a i) _ _ (clear i (omega arith) (omega arith)) ∙ way-clear d n a (suc i) k (λ j l m. clear j (omega arith) (omega arith))
 
-  pub ready-if : (d : Desk Page Act Result) (n : ℕ) (a : Act) → Ready w d n a → asked w d n ≡ ready a
+  pub ready-if : (d : Desk Page Act Result) (n : ℕ) (a : Act) → Ready w local d n a → asked w d n ≡ ready a
   unfolding asked
   ready-if d n a r =
       ap (if-there w d n) (r .there) ∙
@@ -38,7 +38,7 @@ module _ {Page Act Result : Type 0} (w : Steps Page Act Result) where
   pub never-stuck : Never-stuck w
   never-stuck d n a is-there still-open first-one = ready-if d n a (record { there = is-there; is-open = still-open; clear = λ i l. ap (λ t. t && shares-with w n a i (nth (d .filed) i)) (first-one i l) })
 
-  pub worked-if : (d : Desk Page Act Result) (n : ℕ) (a : Act) → Ready w d n a → work w d n ≡ worked-on w d n a
+  pub worked-if : (d : Desk Page Act Result) (n : ℕ) (a : Act) → Ready w local d n a → work w d n ≡ worked-on w d n a
   unfolding work
   worked-if d n a r = ap (if-ready w d n) (ready-if d n a r)
 
@@ -80,7 +80,7 @@ module _ {Page Act Result : Type 0} (w : Steps Page Act Result) where
   sharing n i a None e = absurd (true≢false (sym e))
   sharing n i a (Some b) e = (b, refl, e)
 
-  goes-ready : (d : Desk Page Act Result) (y : Numbered Act) (ys : List (Numbered Act)) → Single (y ∷ ys) → Goes d (y ∷ ys) → Ready w d (y .number) (y .act)
+  goes-ready : (d : Desk Page Act Result) (y : Numbered Act) (ys : List (Numbered Act)) → Single (y ∷ ys) → Goes d (y ∷ ys) → Ready w local d (y .number) (y .act)
   goes-ready d y ys single goes = record {
     there = goes .stands y here;
     is-open = goes .is-open y here;

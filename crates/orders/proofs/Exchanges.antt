@@ -10,21 +10,21 @@ use Rattle.std.specs.declared.option.Option.{Option}
 use Rattle.std.specs.declared.option.Option.the-variants.{Some, None}
 use Rattle.orders.specs.Laws.{Agree, Exchange}
 use Rattle.orders.specs.Orders.{Numbered, Holds, here, there, Single, none, one, Apart, Exchanged, same, swap, skip, more, worked, outcome-in}
-use Rattle.orders.specs.Steps.{Steps}
+use Rattle.orders.specs.Steps.{Acts, Local}
 
-module _ {Page Act Result : Type 0} (w : Steps Page Act Result) where
+module _ {Page Act Result : Type 0} (w : Acts Page Act Result) (local : Local w) where
   -- TWO NEIGHBOURS
 
   -- what one touches the other does not
   untouched : (x y : Numbered Act) → Apart w x y → (q : ℕ) → w .touches (x .number) (x .act) q ≡ true → w .touches (y .number) (y .act) q ≡ false
   untouched x y apart q t =
-      ⊎-elim (λ u. absurd (w .no-common (x .number) (x .act) (y .number) (y .act) (apart .none) q t u)) (λ f. f) (cases-bool (w .touches (y .number) (y .act) q))
+      ⊎-elim (λ u. absurd (local .no-common (x .number) (x .act) (y .number) (y .act) (apart .none) q t u)) (λ f. f) (cases-bool (w .touches (y .number) (y .act) q))
 
   pub apart-sym : (x y : Numbered Act) → Apart w x y → Apart w y x
   apart-sym x y apart = record {
     none = ⊎-elim
         (λ t.
-        let both = w .common (y .number) (y .act) (x .number) (x .act) t in
+        let both = local .common (y .number) (y .act) (x .number) (x .act) t in
         absurd (true≢false (sym (both .1) ∙ untouched x y apart (both .0) (both .2))))
         (λ f. f)
         (cases-bool (w .shares (y .number) (y .act) (x .number) (x .act)));
@@ -36,23 +36,23 @@ module _ {Page Act Result : Type 0} (w : Steps Page Act Result) where
   module _ (x y : Numbered Act) (apart : Apart w x y) (r : ℕ → Page) where
     -- an act finds the pages that it touches as they were before the other
     unseen : (q : ℕ) → w .touches (x .number) (x .act) q ≡ true → after y r q ≡ r q
-    unseen q t = w .only-there (y .number) (y .act) r q (untouched x y apart q t)
+    unseen q t = local .only-there (y .number) (y .act) r q (untouched x y apart q t)
 
     outcome-same : w .outcome (x .number) (x .act) (after y r) ≡ w .outcome (x .number) (x .act) r
-    outcome-same = w .outcome-there (x .number) (x .act) (after y r) r unseen
+    outcome-same = local .outcome-there (x .number) (x .act) (after y r) r unseen
 
   two-pages : (x y : Numbered Act) → Apart w x y → (r : ℕ → Page) (q : ℕ) → after y (after x r) q ≡ after x (after y r) q
   two-pages x y apart r q =
       ⊎-elim
       (λ t.
-      w .only-there (y .number) (y .act) (after x r) q (untouched x y apart q t) ∙
-      sym (w .step-there (x .number) (x .act) (after y r) r (unseen x y apart r) q t))
+      local .only-there (y .number) (y .act) (after x r) q (untouched x y apart q t) ∙
+      sym (local .step-there (x .number) (x .act) (after y r) r (unseen x y apart r) q t))
       (λ f.
       ⊎-elim
-      (λ u. w .step-there (y .number) (y .act) (after x r) r (unseen y x (apart-sym x y apart) r) q u)
-      (λ g. w .only-there (y .number) (y .act) (after x r) q g ∙ w .only-there (x .number) (x .act) r q f ∙ sym (w .only-there (y .number) (y .act) r q g))
+      (λ u. local .step-there (y .number) (y .act) (after x r) r (unseen y x (apart-sym x y apart) r) q u)
+      (λ g. local .only-there (y .number) (y .act) (after x r) q g ∙ local .only-there (x .number) (x .act) r q f ∙ sym (local .only-there (y .number) (y .act) r q g))
       (cases-bool (w .touches (y .number) (y .act) q)) ∙
-      sym (w .only-there (x .number) (x .act) (after y r) q f))
+      sym (local .only-there (x .number) (x .act) (after y r) q f))
       (cases-bool (w .touches (x .number) (x .act) q))
 
   -- LISTS

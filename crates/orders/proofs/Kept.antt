@@ -13,11 +13,11 @@ use Rattle.std.specs.Finite.{nth}
 use Rattle.std.specs.declared.option.Option.{Option}
 use Rattle.std.specs.declared.option.Option.the-variants.{Some, None}
 use Rattle.orders.specs.Desk.{Desk, Answer, absent, finished, waits, ready, is-open, open-at, opened, filed-more, shares-with, in-way, way-from, unless-waits, if-open, if-there, asked, worked-on, if-ready, work, stepped, turn, touched-by}
-use Rattle.orders.specs.Steps.{Steps}
+use Rattle.orders.specs.Steps.{Acts, Local}
 use Rattle.orders.proofs.Places.{nth-front, nth-last, nth-none, nth-some, nth-there, nth-set-same, nth-set-other}
 use Rattle.orders.proofs.Turns.{turn-untouched, turn-more}
 
-module _ {Page Act Result : Type 0} (w : Steps Page Act Result) where
+module _ {Page Act Result : Type 0} (w : Acts Page Act Result) (local : Local w) where
   abbrev touches : Desk Page Act Result → ℕ → ℕ → Bool
   touches d n p = touched-by w n (nth (d .filed) n) p
 
@@ -105,7 +105,7 @@ module _ {Page Act Result : Type 0} (w : Steps Page Act Result) where
         (λ (hj : j < length (d .filed)). sym (open-before j hj) ∙ above j l (touch-before j p hj ∙ t))
         (λ (hj : length (d .filed) ≤ j). never (touch-none j p hj) t)
         (cases-lt j (length (d .filed))))
-        ∙ ap (λ r. r p) (sym (turn-more w start (d .filed) a k h))
+        ∙ ap (λ r. r p) (sym (turn-more w local start (d .filed) a k h))
 
     filed-page :
         (p k : ℕ) → ((i : ℕ) → i < k → touched-by w i (nth (filed-more d a .filed) i) p ≡ true → open-at (filed-more d a) i ≡ false) →
@@ -123,7 +123,7 @@ module _ {Page Act Result : Type 0} (w : Steps Page Act Result) where
         (cases-eq j (length (d .filed))))
         in
         filed-page-below p (length (d .filed)) (omega arith) (λ i l. below i (omega arith)) (λ j l t. never (untouched j l) t) ∙
-        sym (turn-untouched w start (filed-more d a .filed) p (length (d .filed)) k (omega arith) (λ j l u. untouched j l)))
+        sym (turn-untouched w local start (filed-more d a .filed) p (length (d .filed)) k (omega arith) (λ j l u. untouched j l)))
         (λ (h : k ≤ length (d .filed)). filed-page-below p k h below above)
         (cases-lt (length (d .filed)) k)
 
@@ -135,7 +135,7 @@ module _ {Page Act Result : Type 0} (w : Steps Page Act Result) where
         ⊎-elim
         (λ (h : n < length (d .filed)).
         kept .outcome n b o (sym (nth-front (d .filed) a n h) ∙ e) (sym (nth-front (d .marks) None n (omega arith)) ∙ f) ∙
-        ap (w .outcome n b) (sym (turn-more w start (d .filed) a n (omega arith))))
+        ap (w .outcome n b) (sym (turn-more w local start (d .filed) a n (omega arith))))
         (λ (h : length (d .filed) ≤ n).
         ⊎-elim
         (λ (at : n ≡ length (d .filed)). absurd (let s = nth-last (d .marks) None n (omega arith) in let z : _≡_ {A = ℕ} 0 1 = cc in omega arith))
@@ -161,7 +161,7 @@ module _ {Page Act Result : Type 0} (w : Steps Page Act Result) where
   open-shares : (n i q : ℕ) (a : Act) (o : Option Act) → touched-by w i o q ≡ true → w .touches n a q ≡ true → shares-with w n a i o ≡ true
   open-shares n i q a None t u = never-both false refl t
   open-shares n i q a (Some b) t u =
-      ⊎-elim (λ y. y) (λ none. absurd (w .no-common i b n a none q t u)) (cases-bool (w .shares i b n a))
+      ⊎-elim (λ y. y) (λ none. absurd (local .no-common i b n a none q t u)) (cases-bool (w .shares i b n a))
 
   -- what makes an act ready
   pub record Ready (d : Desk Page Act Result) (n : ℕ) (a : Act) : Type 0 where
@@ -232,9 +232,9 @@ module _ {Page Act Result : Type 0} (w : Steps Page Act Result) where
         (λ f. f)
         (cases-bool (touched-by w j (nth (d .filed) j) p)))
         in
-        w .step-there n a (d .register) (turn w start (d .filed) n) before p u ∙
+        local .step-there n a (d .register) (turn w start (d .filed) n) before p u ∙
         ap (λ o. stepped w n o (turn w start (d .filed) n) p) (sym (r .there)) ∙
-        sym (turn-untouched w start (d .filed) p (suc n) k (omega arith) untouched))
+        sym (turn-untouched w local start (d .filed) p (suc n) k (omega arith) untouched))
         (λ (h : k ≤ n). never-both (open-at (worked-on w d n a) n) open-now (above n h (touched p ∙ u)))
         (cases-lt n k)
 
@@ -247,7 +247,7 @@ module _ {Page Act Result : Type 0} (w : Steps Page Act Result) where
         let other : (i : ℕ) → touched-by w i (nth (d .filed) i) p ≡ true → i ≡ n → ⊥ =
         (λ i t e. true≢false (sym t ∙ ap (λ j. touched-by w j (nth (d .filed) j) p) e ∙ touched p ∙ u))
         in
-        w .only-there n a (d .register) p u ∙
+        local .only-there n a (d .register) p u ∙
         kept .page p k
         (λ i l t. sym (open-other i (other i t)) ∙ below i l t)
         (λ j l t. sym (open-other j (other j t)) ∙ above j l t)
@@ -263,7 +263,7 @@ module _ {Page Act Result : Type 0} (w : Steps Page Act Result) where
         let there = r .there in
         let is : o ≡ w .outcome n a (d .register) = cc in
         let act : a ≡ b = cc in
-        is ∙ w .outcome-there n a (d .register) (turn w start (d .filed) n) before ∙ (λ j. w .outcome (sym at j) (act j) (turn w start (d .filed) (sym at j))))
+        is ∙ local .outcome-there n a (d .register) (turn w start (d .filed) n) before ∙ (λ j. w .outcome (sym at j) (act j) (turn w start (d .filed) (sym at j))))
         (λ (other : m ≡ n → ⊥).
         kept .outcome m b o e (sym (nth-set-other (d .marks) n m (Some (w .outcome n a (d .register))) other) ∙ f))
         (cases-eq m n)

@@ -9,7 +9,7 @@ use lib.ListN.{length}
 use Rattle.std.proofs.shelf.Tests.{cases-bool, true≢false}
 use Rattle.orders.specs.Laws.{Agree, Lawful-is-exchanged, Exchanged-is-lawful, Lawful-orders-agree}
 use Rattle.orders.specs.Orders.{Numbered, Holds, here, there, Before, first, later, Single, none, one, Apart, Exchanged, same, swap, skip, more, Lawful}
-use Rattle.orders.specs.Steps.{Steps}
+use Rattle.orders.specs.Steps.{Acts, Local}
 use Rattle.orders.proofs.Exchanges.{exchange, exchanged-sym, holds-exchanged, single-exchanged}
 
 module _ {Act : Type 0} where
@@ -52,7 +52,7 @@ module _ {Act : Type 0} where
   before-rest differ (first h) = absurd (differ refl)
   before-rest differ (later b) = b
 
-module _ {Page Act Result : Type 0} (w : Steps Page Act Result) where
+module _ {Page Act Result : Type 0} (w : Acts Page Act Result) (local : Local w) where
   -- FROM EXCHANGED TO LAWFUL
 
   same-length : {xs ys : List (Numbered Act)} → Exchanged w xs ys → length ys ≡ length xs
@@ -67,7 +67,7 @@ module _ {Page Act Result : Type 0} (w : Steps Page Act Result) where
   order-kept (swap apart) x y share (first (there h)) = later (first h)
   order-kept (swap apart) x y share (later (first h)) = first (there h)
   order-kept (swap apart) x y share (later (later b)) = later (later b)
-  order-kept (skip e) x y share (first h) = first (holds-exchanged w e h)
+  order-kept (skip e) x y share (first h) = first (holds-exchanged w local e h)
   order-kept (skip e) x y share (later b) = later (order-kept e x y share b)
   order-kept (more e f) x y share b = order-kept f x y share (order-kept e x y share b)
 
@@ -75,7 +75,7 @@ module _ {Page Act Result : Type 0} (w : Steps Page Act Result) where
   exchanged-is-lawful xs ys single e = record {
     single = single;
     as-many = same-length e;
-    all = λ x h. holds-exchanged w e h;
+    all = λ x h. holds-exchanged w local e h;
     in-order = λ x y b share. order-kept e x y share b;
   }
 
@@ -119,9 +119,9 @@ module _ {Page Act Result : Type 0} (w : Steps Page Act Result) where
       (x : Numbered Act) (xs ys ws : List (Numbered Act)) → Lawful w (x ∷ xs) ys → ((y : Numbered Act) → Holds y xs → y .number ≢ x .number) → Single xs →
       Inserted x ws ys → Exchanged w xs ws → Exchanged w (x ∷ xs) ys
   first-put x xs ys ws lawful differ single i rest =
-      let back = λ (z : Numbered Act) (h : Holds z ws). holds-exchanged w (exchanged-sym w rest) h in
+      let back = λ (z : Numbered Act) (h : Holds z ws). holds-exchanged w local (exchanged-sym w local rest) h in
       more (skip rest)
-      (moved-back i (single-exchanged w rest single) (λ z h. differ z (back z h)) (λ z h share. lawful .in-order x z (first (back z h)) share))
+      (moved-back i (single-exchanged w local rest single) (λ z h. differ z (back z h)) (λ z h share. lawful .in-order x z (first (back z h)) share))
 
   pub lawful-is-exchanged : Lawful-is-exchanged w
   lawful-is-exchanged [] [] lawful = same
@@ -135,6 +135,6 @@ module _ {Page Act Result : Type 0} (w : Steps Page Act Result) where
 
   pub lawful-orders-agree : Lawful-orders-agree w
   lawful-orders-agree xs ys zs r lawful lawful′ =
-      let first = exchange w xs ys r (lawful .single) (lawful-is-exchanged xs ys lawful) in
-      let second = exchange w xs zs r (lawful .single) (lawful-is-exchanged xs zs lawful′) in
+      let first = exchange w local xs ys r (lawful .single) (lawful-is-exchanged xs ys lawful) in
+      let second = exchange w local xs zs r (lawful .single) (lawful-is-exchanged xs zs lawful′) in
       record { pages = λ p. sym (first .pages p) ∙ second .pages p; outcomes = λ k. sym (first .outcomes k) ∙ second .outcomes k }

@@ -12,7 +12,7 @@ use Rattle.std.specs.declared.option.Option.{Option}
 use Rattle.std.specs.declared.option.Option.the-variants.{Some, None}
 use Rattle.orders.specs.Desk.{Desk, Answer, absent, finished, waits, ready, open-at, shares-with, in-way, way-from, unless-waits, if-open, if-there, asked, worked-on, if-ready, work, Reached, at-opening, on-filing, on-work, turn, touched-by, open-from, first-open, is-open, worked-all}
 use Rattle.orders.specs.Laws.{As-filed, Order-of-work-unseen, Untouched-is-final}
-use Rattle.orders.specs.Steps.{Steps}
+use Rattle.orders.specs.Steps.{Acts, Local}
 use Rattle.orders.proofs.Kept.{Kept, Ready, kept-opened, kept-filed, kept-worked}
 use Rattle.orders.proofs.Places.{nth-none, nth-set-other}
 
@@ -23,7 +23,7 @@ which finished = 1
 which (waits i) = 2
 which (ready a) = 3
 
-module _ {Page Act Result : Type 0} (w : Steps Page Act Result) where
+module _ {Page Act Result : Type 0} (w : Acts Page Act Result) (local : Local w) where
   other-answer : {X : Type 0} {x y : Answer Act} → (which x ≡ which y → ⊥) → x ≡ y → X
   other-answer h e = absurd (h (ap which e))
 
@@ -43,39 +43,39 @@ module _ {Page Act Result : Type 0} (w : Steps Page Act Result) where
       (cases-bool (in-way w d n a i))
 
   module _ (d : Desk Page Act Result) (n : ℕ) (a : Act) where
-    by-way : (b : Act) (v : Option ℕ) → nth (d .filed) n ≡ Some b → open-at d n ≡ true → way-from w d n b 0 n ≡ v → unless-waits w b v ≡ ready a → Ready w d n a
+    by-way : (b : Act) (v : Option ℕ) → nth (d .filed) n ≡ Some b → open-at d n ≡ true → way-from w d n b 0 n ≡ v → unless-waits w b v ≡ ready a → Ready w local d n a
     by-way b None there is-open way e =
         let same : b ≡ a = cc in
-        subst (Ready w d n) same (record { there = there; is-open = is-open; clear = λ i l. way-none d n b 0 n way i (omega arith) (omega arith) })
+        subst (Ready w local d n) same (record { there = there; is-open = is-open; clear = λ i l. way-none d n b 0 n way i (omega arith) (omega arith) })
     by-way b (Some i) there is-open way e = other-answer (λ h. omega arith) e
 
-    by-mark : (b : Act) (t : Bool) → nth (d .filed) n ≡ Some b → open-at d n ≡ t → if-open w t (unless-waits w b (way-from w d n b 0 n)) ≡ ready a → Ready w d n a
+    by-mark : (b : Act) (t : Bool) → nth (d .filed) n ≡ Some b → open-at d n ≡ t → if-open w t (unless-waits w b (way-from w d n b 0 n)) ≡ ready a → Ready w local d n a
     by-mark b true there is-open e = by-way b (way-from w d n b 0 n) there is-open refl e
     by-mark b false there is-open e = other-answer (λ h. omega arith) e
 
-    by-act : (o : Option Act) → nth (d .filed) n ≡ o → if-there w d n o ≡ ready a → Ready w d n a
+    by-act : (o : Option Act) → nth (d .filed) n ≡ o → if-there w d n o ≡ ready a → Ready w local d n a
     by-act None there e = other-answer (λ h. omega arith) e
     by-act (Some b) there e = by-mark b (open-at d n) there refl e
 
     -- the answer `ready` is given just where the rule lets it be worked
-    pub ready-means : asked w d n ≡ ready a → Ready w d n a
+    pub ready-means : asked w d n ≡ ready a → Ready w local d n a
     unfolding asked
     ready-means e = by-act (nth (d .filed) n) refl e
 
   module _ (start : ℕ → Page) where
-    kept-asked : (d : Desk Page Act Result) (n : ℕ) → Kept w start d → (x : Answer Act) → asked w d n ≡ x → Kept w start (if-ready w d n x)
+    kept-asked : (d : Desk Page Act Result) (n : ℕ) → Kept w local start d → (x : Answer Act) → asked w d n ≡ x → Kept w local start (if-ready w d n x)
     kept-asked d n kept absent e = kept
     kept-asked d n kept finished e = kept
     kept-asked d n kept (waits i) e = kept
-    kept-asked d n kept (ready a) e = kept-worked w start d n a kept (ready-means d n a e)
+    kept-asked d n kept (ready a) e = kept-worked w local start d n a kept (ready-means d n a e)
 
-    pub kept-work : (d : Desk Page Act Result) (n : ℕ) → Kept w start d → Kept w start (work w d n)
+    pub kept-work : (d : Desk Page Act Result) (n : ℕ) → Kept w local start d → Kept w local start (work w d n)
     unfolding work
     kept-work d n kept = kept-asked d n kept (asked w d n) refl
 
-    pub kept-reached : {d : Desk Page Act Result} → Reached w start d → Kept w start d
-    kept-reached at-opening = kept-opened w start
-    kept-reached (on-filing {d} r a) = kept-filed w start d a (kept-reached r)
+    pub kept-reached : {d : Desk Page Act Result} → Reached w start d → Kept w local start d
+    kept-reached at-opening = kept-opened w local start
+    kept-reached (on-filing {d} r a) = kept-filed w local start d a (kept-reached r)
     kept-reached (on-work {d} r n) = kept-work d n (kept-reached r)
 
   -- THE FIRST OPEN ACT THAT TOUCHES A PAGE
@@ -115,7 +115,7 @@ module _ {Page Act Result : Type 0} (w : Steps Page Act Result) where
   and-second true y e f = absurd (true≢false (sym f ∙ e))
   and-second false y e f = refl
 
-  as-filed : (start : ℕ → Page) (d : Desk Page Act Result) → Kept w start d → As-filed w start d
+  as-filed : (start : ℕ → Page) (d : Desk Page Act Result) → Kept w local start d → As-filed w start d
   as-filed start d kept = record {
     page = λ p.
         let f : ℕ = first-open w d p in
@@ -151,11 +151,11 @@ module _ {Page Act Result : Type 0} (w : Steps Page Act Result) where
     pub page : e .register p ≡ d .register p
     pub free : Free e p
 
-  free-worked : (d : Desk Page Act Result) (p n : ℕ) (a : Act) → Free d p → Ready w d n a → Stays d (worked-on w d n a) p
+  free-worked : (d : Desk Page Act Result) (p n : ℕ) (a : Act) → Free d p → Ready w local d n a → Stays d (worked-on w d n a) p
   free-worked d p n a free r =
       let not-here = sym (ap (λ o. touched-by w n o p) (r .there)) ∙ free .untouched n (r .is-open) in
       record {
-        page = w .only-there n a (d .register) p not-here;
+        page = local .only-there n a (d .register) p not-here;
         free = record {
           untouched = λ i o.
               ⊎-elim

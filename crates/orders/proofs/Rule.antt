@@ -14,7 +14,7 @@ use Rattle.std.specs.declared.option.Option.the-variants.{Some, None}
 use Rattle.orders.specs.Desk.{Desk, Answer, absent, finished, waits, ready, is-open, open-at, all-open, shares-with, asked, worked-on, work, is-ready, accepted}
 use Rattle.orders.specs.Laws.{Lawful-is-accepted, Accepted-is-lawful}
 use Rattle.orders.specs.Orders.{Numbered, Holds, here, there, Before, first, later, Single, none, one, Apart, Lawful, numbered, numbers-of}
-use Rattle.orders.specs.Steps.{Steps}
+use Rattle.orders.specs.Steps.{Acts, Local}
 use Rattle.orders.proofs.Accepted.{Goes, goes-accepted, leaves, still-another, worked-if}
 use Rattle.orders.proofs.Exchanges.{exchanged-sym, holds-exchanged, single-exchanged}
 use Rattle.orders.proofs.Kept.{Ready}
@@ -113,7 +113,7 @@ module _ {Act : Type 0} where
       (λ k. there (all-of-them ys (out .0) s (λ z m. other-holds (once z m) (out .1) (among z (there m))) (omega arith) x k))
       (in-either (out .1) h)
 
-module _ {Page Act Result : Type 0} (w : Steps Page Act Result) where
+module _ {Page Act Result : Type 0} (w : Acts Page Act Result) (local : Local w) where
   -- FROM LAWFUL TO ACCEPTED
 
   none-worked : (k n : ℕ) → n < k → nth {X = Option Result} (replicate k None) n ≡ Some None
@@ -129,9 +129,9 @@ module _ {Page Act Result : Type 0} (w : Steps Page Act Result) where
 
   pub lawful-is-accepted : Lawful-is-accepted w
   lawful-is-accepted start fs ys lawful =
-      let exchanged = lawful-is-exchanged w (numbered 0 fs) ys lawful in
-      let stands : (y : Numbered Act) → Holds y ys → nth fs (y .number) ≡ Some (y .act) = λ y h. filed-at fs (holds-exchanged w (exchanged-sym w exchanged) h) in
-      goes-accepted w ys (all-open start fs) (single-exchanged w exchanged (lawful .single)) (record {
+      let exchanged = lawful-is-exchanged w local (numbered 0 fs) ys lawful in
+      let stands : (y : Numbered Act) → Holds y ys → nth fs (y .number) ≡ Some (y .act) = λ y h. filed-at fs (holds-exchanged w local (exchanged-sym w local exchanged) h) in
+      goes-accepted w local ys (all-open start fs) (single-exchanged w local exchanged (lawful .single)) (record {
         stands = stands;
         is-open = λ y h. open-all start fs (y .number) (y .act) (stands y h);
         in-order = λ y h i b l is-there o share.
@@ -149,13 +149,13 @@ module _ {Page Act Result : Type 0} (w : Steps Page Act Result) where
 
   pub record Went (d : Desk Page Act Result) (ys : List (Numbered Act)) : Type 0 where
     pub single : Single ys
-    pub goes : Goes w d ys
+    pub goes : Goes w local d ys
 
   went-more :
-      (d : Desk Page Act Result) (y : Numbered Act) (ys : List (Numbered Act)) → nth (d .filed) (y .number) ≡ Some (y .act) → Ready w d (y .number) (y .act) →
+      (d : Desk Page Act Result) (y : Numbered Act) (ys : List (Numbered Act)) → nth (d .filed) (y .number) ≡ Some (y .act) → Ready w local d (y .number) (y .act) →
       Went (worked-on w d (y .number) (y .act)) ys → Went d (y ∷ ys)
   went-more d y ys is-there r went = record {
-    single = one (λ z h. still-another w d (y .number) (y .act) (r .is-open) (z .number) (went .goes .is-open z h)) (went .single);
+    single = one (λ z h. still-another w local d (y .number) (y .act) (r .is-open) (z .number) (went .goes .is-open z h)) (went .single);
     goes = record { stands = at-each-stands; is-open = at-each-open; in-order = at-each-order };
   }
     where
@@ -167,7 +167,7 @@ module _ {Page Act Result : Type 0} (w : Steps Page Act Result) where
       at-each-open _ here = r .is-open
       at-each-open z (there h) =
           let o = went .goes .is-open z h in
-          sym (leaves w d (y .number) (y .act) (z .number) (still-another w d (y .number) (y .act) (r .is-open) (z .number) o)) ∙ o
+          sym (leaves w local d (y .number) (y .act) (z .number) (still-another w local d (y .number) (y .act) (r .is-open) (z .number) o)) ∙ o
 
       at-each-order :
           (z : Numbered Act) → Holds z (y ∷ ys) → (i : ℕ) (b : Act) → i < z .number → nth (d .filed) i ≡ Some b → open-at d i ≡ true →
@@ -181,7 +181,7 @@ module _ {Page Act Result : Type 0} (w : Steps Page Act Result) where
           let same : y .act ≡ b = cc in
           subst (λ x. Before x z (y ∷ ys)) (λ j. record { number = sym e j; act = same j }) (first h))
           (λ (another : i ≡ y .number → ⊥).
-          later (went .goes .in-order z h i b l t (leaves w d (y .number) (y .act) i another ∙ o) share))
+          later (went .goes .in-order z h i b l t (leaves w local d (y .number) (y .act) i another ∙ o) share))
           (cases-eq i (y .number))
 
   went-if-accepted :
@@ -193,12 +193,12 @@ module _ {Page Act Result : Type 0} (w : Steps Page Act Result) where
       let both = and-parts _ _ acc in
       let found = ready-some (asked w d (y .number)) (both .0) in
       let is-there = stands y here in
-      let means = ready-means w d (y .number) (found .0) (found .1) in
+      let means = ready-means w local d (y .number) (found .0) (found .1) in
       let means-there = means .there in
       let same : found .0 ≡ y .act = cc in
-      let r = subst (Ready w d (y .number)) same means in
+      let r = subst (Ready w local d (y .number)) same means in
       went-more d y ys is-there r
-      (went-if-accepted ys (worked-on w d (y .number) (y .act)) (λ z h. stands z (there h)) (subst (λ e. accepted w e (numbers-of ys) ≡ true) (worked-if w d (y .number) (y .act) r) (both .1)))
+      (went-if-accepted ys (worked-on w d (y .number) (y .act)) (λ z h. stands z (there h)) (subst (λ e. accepted w e (numbers-of ys) ≡ true) (worked-if w local d (y .number) (y .act) r) (both .1)))
 
   pub accepted-is-lawful : Accepted-is-lawful w
   accepted-is-lawful start fs ys stands size acc =

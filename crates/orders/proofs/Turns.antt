@@ -11,13 +11,13 @@ use Rattle.std.specs.Finite.{nth}
 use Rattle.std.specs.declared.option.Option.{Option}
 use Rattle.std.specs.declared.option.Option.the-variants.{Some, None}
 use Rattle.orders.specs.Desk.{stepped, touched-by, turn}
-use Rattle.orders.specs.Steps.{Steps}
+use Rattle.orders.specs.Steps.{Acts, Local}
 use Rattle.orders.proofs.Places.{nth-front}
 
-module _ {Page Act Result : Type 0} (w : Steps Page Act Result) where
+module _ {Page Act Result : Type 0} (w : Acts Page Act Result) (local : Local w) where
   pub stepped-other : (n : ℕ) (o : Option Act) (r : ℕ → Page) (p : ℕ) → touched-by w n o p ≡ false → stepped w n o r p ≡ r p
   stepped-other n None r p h = refl
-  stepped-other n (Some a) r p h = w .only-there n a r p h
+  stepped-other n (Some a) r p h = local .only-there n a r p h
 
   -- where nothing from k up to m touches a page, it is the same before k and before m
   pub turn-untouched :

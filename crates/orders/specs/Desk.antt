@@ -8,7 +8,7 @@ use lib.ListN.{length, replicate, set}
 use Rattle.std.specs.Finite.{nth}
 use Rattle.std.specs.declared.option.Option.{Option}
 use Rattle.std.specs.declared.option.Option.the-variants.{Some, None}
-use Rattle.orders.specs.Steps.{Steps}
+use Rattle.orders.specs.Steps.{Acts}
 
 -- an act has the number of its place among what was filed; its mark is what came of it, and none while it is open
 pub record Desk (Page Act Result : Type 0) : Type 0 where
@@ -45,7 +45,7 @@ module _ {Page Act Result : Type 0} where
   abbrev pub filed-more : Desk Page Act Result → Act → Desk Page Act Result
   filed-more d a = record { register = d .register; filed = d .filed ++ a ∷ []; marks = d .marks ++ None ∷ [] }
 
-module _ {Page Act Result : Type 0} (w : Steps Page Act Result) where
+module _ {Page Act Result : Type 0} (w : Acts Page Act Result) where
   abbrev pub shares-with : ℕ → Act → ℕ → Option Act → Bool
   shares-with n a i None = false
   shares-with n a i (Some b) = w .shares i b n a

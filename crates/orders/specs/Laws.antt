@@ -9,9 +9,9 @@ use Rattle.std.specs.declared.option.Option.{Option}
 use Rattle.std.specs.declared.option.Option.the-variants.{Some, None}
 use Rattle.orders.specs.Desk.{Desk, Reached, turn, first-open, open-at, all-open, asked, ready, accepted, touched-by, worked-all}
 use Rattle.orders.specs.Orders.{Numbered, Holds, Single, Exchanged, Lawful, worked, outcome-in, numbered, numbers-of}
-use Rattle.orders.specs.Steps.{Steps}
+use Rattle.orders.specs.Steps.{Acts}
 
-module _ {Page Act Result : Type 0} (w : Steps Page Act Result) where
+module _ {Page Act Result : Type 0} (w : Acts Page Act Result) where
   -- the same register and the same outcomes
   pub record Agree (r : ℕ → Page) (xs ys : List (Numbered Act)) : Type 0 where
     pub pages : (p : ℕ) → worked w xs r p ≡ worked w ys r p

@@ -8,7 +8,7 @@ use lib.Dec.{eqb}
 use lib.ListN.{length}
 use Rattle.std.specs.declared.option.Option.{Option}
 use Rattle.std.specs.declared.option.Option.the-variants.{Some, None}
-use Rattle.orders.specs.Steps.{Steps}
+use Rattle.orders.specs.Steps.{Acts}
 
 pub record Numbered (Act : Type 0) : Type 0 where
   pub number : ℕ
@@ -36,7 +36,7 @@ abbrev pub numbers-of : {Act : Type 0} → List (Numbered Act) → List ℕ
 numbers-of [] = []
 numbers-of (x ∷ xs) = x .number ∷ numbers-of xs
 
-module _ {Page Act Result : Type 0} (w : Steps Page Act Result) where
+module _ {Page Act Result : Type 0} (w : Acts Page Act Result) where
   -- the register after they were worked one by one
   unfoldable pub worked : List (Numbered Act) → (ℕ → Page) → ℕ → Page
   worked [] r = r

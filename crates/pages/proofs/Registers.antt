@@ -9,7 +9,7 @@ use borrow.Rule.Slice.PartMut.{putMid}
 use lib.Dec.{eqb, ltb}
 use lib.ListN.{length, take, drop, getD, length-append, length-drop, length-take}
 use Rattle.std.proofs.shelf.Lists.{take-at, take-take, take-append-le, drop-at, drop-append-le, drop-drop, drop-take, length-take-le, append-nil}
-use Rattle.std.proofs.shelf.Tests.{cases-bool, cases-lt, cond-true, cond-false, eqb-true, eqb-false, ltb-true, le-ltb, lt-ltb}
+use Rattle.std.proofs.shelf.Tests.{cases-bool, cases-lt, cond-true, cond-false, eqb-true, eqb-false, ltb-true, le-ltb, lt-ltb, true≢false}
 use Rattle.std.specs.Finite.{nth}
 use Rattle.entries.specs.Sheet.{Sheet}
 use Rattle.entries.specs.declared.entry.Claim.{Claim}
@@ -205,3 +205,9 @@ module _ (ws : List ℕ) (p : ℕ) where
   pub read-past : (t : Sheet) → room ws ≤ p → t ≡ no-page → t ≡ page-at ws p
   unfolding page-at
   read-past t h e = e ∙ sym (cond-false (ltb p (room ws)) _ _ (le-ltb _ _ h))
+
+  -- a live page lies within the memory
+  pub live-within : page-at ws p .live ≡ true → p < room ws
+  unfolding page-at
+  live-within live =
+      ⊎-elim (λ h. h) (λ (h : room ws ≤ p). absurd (true≢false (sym live ∙ ap (λ (s : Sheet). s .live) (cond-false (ltb p (room ws)) _ _ (le-ltb _ _ h))))) (cases-lt p (room ws))

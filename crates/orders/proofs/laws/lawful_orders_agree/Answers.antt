@@ -4,8 +4,8 @@ use Rattle.orders.proofs.laws.lawful_orders_agree.Needs as need
 
 pub returns : need.returns
 returns g c = record {
-  exchange = λ w. exchange w;
-  lawful = λ w. exchanged-is-lawful w;
-  exchanged = λ w. lawful-is-exchanged w;
-  agree = λ w. lawful-orders-agree w;
+  exchange = λ w l. exchange w l;
+  lawful = λ w l. exchanged-is-lawful w l;
+  exchanged = λ w l. lawful-is-exchanged w l;
+  agree = λ w l. lawful-orders-agree w l;
 }

@@ -4,7 +4,7 @@ use Rattle.orders.proofs.laws.rule_is_lawful.Needs as need
 
 pub returns : need.returns
 returns g c = record {
-  accepted = λ w. lawful-is-accepted w;
-  lawful = λ w. accepted-is-lawful w;
-  stuck = λ w. never-stuck w;
+  accepted = λ w l. lawful-is-accepted w l;
+  lawful = λ w l. accepted-is-lawful w l;
+  stuck = λ w l. never-stuck w l;
 }
