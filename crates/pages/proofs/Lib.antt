@@ -1,4 +1,5 @@
 pub mod Openings
 pub mod Reading
 pub mod Registers
+pub mod Swapped
 pub mod Writing

@@ -1,14 +1,14 @@
 -- A page that is written is read back, and every other page is as it was. Assumes nothing.
 use mathlib.Core.Path.{_≡_, refl, sym, ap, subst, _∙_}
 use mathlib.Core.Bool.{Bool, true, false, cond}
-use mathlib.Core.List.{List, [], _∷_, _++_, append-assoc}
+use mathlib.Core.List.{List, [], _∷_, _++_}
 use mathlib.Core.Logic.{_⊎_, inl, inr, ⊎-elim}
 use Prim.Native.Nat.{ℕ, zero, suc, min, _+_, _-_, _*_, _/_, _%_, _^_, _≤_, _<_}
 use native.Mathlib.Omega.{arith}
 use borrow.Rule.Slice.PartMut.{putMid}
 use lib.Dec.{eqb, ltb}
-use lib.ListN.{length, take, drop, getD, length-append, length-drop, length-take}
-use Rattle.std.proofs.shelf.Lists.{take-at, take-take, take-append-le, drop-at, drop-append-le, drop-drop, drop-take, length-take-le, append-nil}
+use lib.ListN.{length, take, drop, length-append}
+use Rattle.std.proofs.shelf.Lists.{drop-drop}
 use Rattle.std.proofs.shelf.Tests.{cases-bool, cases-lt, cond-true, cond-false, eqb-true, eqb-false, ltb-true, le-ltb, lt-ltb, true≢false}
 use Rattle.std.specs.Finite.{nth}
 use Rattle.entries.specs.Sheet.{Sheet}
@@ -17,6 +17,7 @@ use Rattle.entries.specs.declared.entry.Claim.the-variants.{Charge, Reserved}
 use Rattle.entries.specs.declared.entry.Entry.{Entry}
 use Rattle.pages.specs.Register.{Register, no-page, put, put-kept, room, words-at, page-at, put-page}
 use Rattle.pages.specs.Words.{flag, claim-words, entry-words, place-words, places, head-words, sheet-words, entry-in, entries-in, sheet-in, Fits-entry, Fits-sheet}
+use Rattle.pages.proofs.Swapped.{swapped, swapped-here, swapped-below, swapped-above, swapped-size}
 use Rattle.pages.proofs.Writing.{place-size}
 
 -- ONE PAGE
@@ -68,52 +69,6 @@ places-size (suc n) (e ∷ es) =
 pub sheet-size : (s : Sheet) → length (sheet-words s) ≡ 132
 sheet-size s = let e = places-size 32 (s .entries) in omega arith
 
--- ANY PART OF A LIST IN PLACE OF ANOTHER OF ITS SIZE
-
-module _ {X : Type 0} (xs ys : List X) (a n : ℕ) (size : length ys ≡ n) (within : a + n ≤ length xs) where
-  swapped : List X
-  swapped = take a xs ++ (ys ++ drop (a + n) xs)
-
-  swapped-here : take n (drop a swapped) ≡ ys
-  unfolding swapped
-  swapped-here =
-      ap (take n) (drop-at (take a xs) (ys ++ drop (a + n) xs) a (length-take-le a xs (omega arith))) ∙ take-at ys (drop (a + n) xs) n size
-
-  swapped-below : (b : ℕ) → b + n ≤ a → take n (drop b swapped) ≡ take n (drop b xs)
-  unfolding swapped
-  swapped-below b h =
-      let front = length-take-le a xs (omega arith) in
-      let m : ℕ = a - b in
-      let split : a ≡ b + m = omega arith in
-      let left : drop b (take a xs) ≡ take m (drop b xs) = ap (λ k. drop b (take k xs)) split ∙ drop-take b m xs in
-      let long : n ≤ length (drop b (take a xs)) = simp (length-drop, length-take) (omega arith) in
-      ap (take n) (drop-append-le b (take a xs) (ys ++ drop (a + n) xs) (omega arith)) ∙
-      take-append-le n (drop b (take a xs)) (ys ++ drop (a + n) xs) long ∙
-      ap (take n) left ∙
-      take-take n m (drop b xs) (omega arith)
-
-  swapped-above : (b : ℕ) → a + n ≤ b → drop b swapped ≡ drop b xs
-  unfolding swapped
-  swapped-above b h =
-      let front = length-take-le a xs (omega arith) in
-      let m : ℕ = b - (a + n) in
-      let split : b ≡ (a + n) + m = omega arith in
-      let pre : List X = take a xs ++ ys in
-      let rest : drop (a + n) (take a xs ++ (ys ++ drop (a + n) xs)) ≡ drop (a + n) xs =
-      ap (drop (a + n)) (sym (append-assoc (take a xs) ys (drop (a + n) xs))) ∙ drop-at pre (drop (a + n) xs) (a + n) (simp length-append (omega arith))
-      in
-      ap (λ k. drop k (take a xs ++ (ys ++ drop (a + n) xs))) split ∙
-      sym (drop-drop m (a + n) (take a xs ++ (ys ++ drop (a + n) xs))) ∙
-      ap (drop m) rest ∙
-      drop-drop m (a + n) xs ∙
-      ap (λ k. drop k xs) (sym split)
-
-  swapped-size : length swapped ≡ length xs
-  unfolding swapped
-  swapped-size =
-      let front = length-take-le a xs (omega arith) in
-      simp (length-append, length-drop) (omega arith)
-
 -- THE REGISTER
 
 module _ (ws : List ℕ) (p : ℕ) (s : Sheet) where
@@ -126,7 +81,7 @@ module _ (ws : List ℕ) (p : ℕ) (s : Sheet) where
     fits-in = let h = ltb-true p (room ws) here in omega arith
 
     is-swapped : put-page ws p s ≡ swapped ws (sheet-words s) (132 * p) 132 (sheet-size s) fits-in
-    unfolding put-page swapped
+    unfolding put-page
     is-swapped = cond-true (ltb p (room ws)) _ _ here
 
     size-here : length (put-page ws p s) ≡ length ws
