@@ -2,9 +2,12 @@
 use mathlib.Core.Bool.{Bool, cond}
 use mathlib.Core.List.{List, [], _∷_, _++_}
 use Prim.Native.Nat.{ℕ, zero, suc, _+_, _-_, _*_, _/_, _%_}
+use denote.Ref.{RefT}
 use lib.Dec.{eqb, leb, ltb}
 use lib.ListN.{length, take, drop}
 use Rattle.std.specs.Joined.{joined}
+use Rattle.std.specs.declared.option.Option.{Option}
+use Rattle.std.specs.declared.option.Option.the-variants.{Some, None}
 use Rattle.std.specs.declared.result.Result.{Result}
 use Rattle.std.specs.declared.result.Result.the-variants.{Ok, Err}
 use Rattle.pages.specs.Bytes.{byte, two}
@@ -45,6 +48,13 @@ abbrev pub cut : ℕ → List ℕ → List (List ℕ)
 cut zero bs = []
 cut (suc n) [] = []
 cut (suc n) (b ∷ bs) = take b bs ∷ cut n (drop b bs)
+
+abbrev pub first-filing : List ℕ → Option (List ℕ × List ℕ)
+first-filing [] = None
+first-filing (b ∷ bs) = Some (take b bs, drop b bs)
+
+abbrev pub two-parts : RefT (List ℕ) × RefT (List ℕ) → List ℕ × List ℕ
+two-parts x = (x .0 .now, x .1 .now)
 
 abbrev pub filings-in : List ℕ → List (List ℕ)
 filings-in bs = cut (length bs) bs

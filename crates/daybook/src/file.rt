@@ -5,7 +5,8 @@ ghost use Prim.Native.Nat.{_<_, _≤_};
 ghost use lib.ListN.{length};
 ghost use Rattle.std.specs.Results.{mapped};
 ghost use Rattle.std.specs.Vec.{made};
-ghost use Rattle.daybook.specs.File.{end-from, parts, reading};
+ghost use Rattle.std.specs.Options.{mapped as mapped-some};
+ghost use Rattle.daybook.specs.File.{end-from, first-filing, parts, reading, two-parts};
 use crate::error::FileError;
 use crate::error::FileErrorFromMalformed;
 use crate::error::FileErrorFromRefusal;
@@ -78,4 +79,16 @@ impl<'a> DayBook<'a> {
             order: &bytes[end + 1..],
         })
     }
+}
+
+// The first filing of a row in which each stands after a byte of its length, and the rest of the row.
+pub fn next_filing(filings: &[u8]) -> Option<(&[u8], &[u8])>
+    ensures { λ r. ⌜ mapped-some two-parts r ≡ first-filing (now (filings .entry)) ⌝ }
+{
+    if filings.len() == 0 {
+        return None;
+    }
+    let rest = &filings[1..];
+    let end = rest.len().min(filings[0] as usize);
+    Some((&rest[0..end], &rest[end..]))
 }

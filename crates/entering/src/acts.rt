@@ -36,12 +36,25 @@ fn last(page: Page, entry: Entry) -> Result<Page, Rejection>
     Ok(page)
 }
 
-pub fn charged(page: Page, number: u16, owner: u32, holder: u32, amount: u64) -> Result<Page, Rejection>
+pub fn charged(
+    page: Page,
+    number: u16,
+    owner: u32,
+    holder: u32,
+    amount: u64,
+) -> Result<Page, Rejection>
     ensures { λ r. ⌜ mapped sheet (λ e. e) r ≡ charged (sheet page) number owner holder amount ⌝ }
 {
     owned(&page, owner)?;
     let claim = Claim::Charge(amount);
-    last(page, Entry { number, holder, claim })
+    last(
+        page,
+        Entry {
+            number,
+            holder,
+            claim,
+        },
+    )
 }
 
 pub fn reserved(page: Page, number: u16, owner: u32, holder: u32) -> Result<Page, Rejection>
@@ -49,7 +62,14 @@ pub fn reserved(page: Page, number: u16, owner: u32, holder: u32) -> Result<Page
 {
     owned(&page, owner)?;
     let claim = Claim::Reserved;
-    last(page, Entry { number, holder, claim })
+    last(
+        page,
+        Entry {
+            number,
+            holder,
+            claim,
+        },
+    )
 }
 
 // The page after a change of one of its entries, or the reason that there is no such entry.
@@ -62,7 +82,13 @@ fn entry_found(page: Option<Page>) -> Result<Page, Rejection>
     }
 }
 
-pub fn filled(page: Page, owner: u32, holder: u32, number: u16, amount: u64) -> Result<Page, Rejection>
+pub fn filled(
+    page: Page,
+    owner: u32,
+    holder: u32,
+    number: u16,
+    amount: u64,
+) -> Result<Page, Rejection>
     ensures { λ r. ⌜ mapped sheet (λ e. e) r ≡ filled-by (sheet page) owner holder number amount ⌝ }
 {
     owned(&page, owner)?;
@@ -93,7 +119,13 @@ pub fn divisible(page: &Page, owner: u32, area: u32) -> Result<(), Rejection>
 }
 
 // Whether an owner may join these two parcels.
-pub fn mergeable(parcel: u16, other: u16, page: &Page, other_page: &Page, owner: u32) -> Result<(), Rejection>
+pub fn mergeable(
+    parcel: u16,
+    other: u16,
+    page: &Page,
+    other_page: &Page,
+    owner: u32,
+) -> Result<(), Rejection>
     ensures { λ r. ⌜ r ≡ mergeable parcel other (sheet (now (page .entry))) (sheet (now («other_page» .entry))) owner (Ok tt) ⌝ }
 {
     owned(page, owner)?;

@@ -56,21 +56,41 @@ fn transfer(words: &mut [u64], parcel: u16, owner: u32, to: u32) -> Result<(), R
     rewrite(words, parcel, transferred(page, owner, to))
 }
 
-fn charge(words: &mut [u64], number: u16, parcel: u16, owner: u32, holder: u32, amount: u64) -> Result<(), Rejection>
+fn charge(
+    words: &mut [u64],
+    number: u16,
+    parcel: u16,
+    owner: u32,
+    holder: u32,
+    amount: u64,
+) -> Result<(), Rejection>
     ensures { λ r. ⌜ Done (act 0 number (Charge parcel owner holder amount) (page-at (now (words .entry)))) (now (words .entry)) r (now (words .exit)) ⌝ }
 {
     let page = live_page(words, parcel)?;
     rewrite(words, parcel, charged(page, number, owner, holder, amount))
 }
 
-fn reserve(words: &mut [u64], number: u16, parcel: u16, owner: u32, holder: u32) -> Result<(), Rejection>
+fn reserve(
+    words: &mut [u64],
+    number: u16,
+    parcel: u16,
+    owner: u32,
+    holder: u32,
+) -> Result<(), Rejection>
     ensures { λ r. ⌜ Done (act 0 number (Reserve parcel owner holder) (page-at (now (words .entry)))) (now (words .entry)) r (now (words .exit)) ⌝ }
 {
     let page = live_page(words, parcel)?;
     rewrite(words, parcel, reserved(page, number, owner, holder))
 }
 
-fn fill(words: &mut [u64], parcel: u16, owner: u32, holder: u32, number: u16, amount: u64) -> Result<(), Rejection>
+fn fill(
+    words: &mut [u64],
+    parcel: u16,
+    owner: u32,
+    holder: u32,
+    number: u16,
+    amount: u64,
+) -> Result<(), Rejection>
     ensures { λ r. ⌜ Done (act 0 0 (Fill parcel owner holder number amount) (page-at (now (words .entry)))) (now (words .entry)) r (now (words .exit)) ⌝ }
 {
     let page = live_page(words, parcel)?;
@@ -92,7 +112,13 @@ fn postpone(words: &mut [u64], parcel: u16, holder: u32, number: u16) -> Result<
 }
 
 // The parts are the parcels `first` and the next; both go on with the entries of the parcel, which is closed.
-fn subdivide(words: &mut [u64], first: usize, parcel: u16, owner: u32, area: u32) -> Result<(), Rejection>
+fn subdivide(
+    words: &mut [u64],
+    first: usize,
+    parcel: u16,
+    owner: u32,
+    area: u32,
+) -> Result<(), Rejection>
     requires { ⌜ first + 2 ≤ room (now words) ⌝ }
     ensures { λ r. ⌜ Done (act first 0 (Subdivide parcel owner area) (page-at (now (words .entry)))) (now (words .entry)) r (now (words .exit)) ⌝ }
 {
@@ -106,7 +132,13 @@ fn subdivide(words: &mut [u64], first: usize, parcel: u16, owner: u32, area: u32
 }
 
 // The whole is the parcel `first`; it goes on with the entries that both have, and both are closed.
-fn merge(words: &mut [u64], first: usize, parcel: u16, other: u16, owner: u32) -> Result<(), Rejection>
+fn merge(
+    words: &mut [u64],
+    first: usize,
+    parcel: u16,
+    other: u16,
+    owner: u32,
+) -> Result<(), Rejection>
     requires { ⌜ first + 2 ≤ room (now words) ⌝ }
     ensures { λ r. ⌜ Done (act first 0 (Merge parcel other owner) (page-at (now (words .entry)))) (now (words .entry)) r (now (words .exit)) ⌝ }
 {
@@ -126,13 +158,44 @@ fn enter_kind(words: &mut [u64], first: usize, number: u16, filing: Filing) -> R
 {
     match filing {
         Filing::Transfer { parcel, owner, to } => transfer(words, parcel, owner, to),
-        Filing::Charge { parcel, owner, holder, amount } => charge(words, number, parcel, owner, holder, amount),
-        Filing::Reserve { parcel, owner, holder } => reserve(words, number, parcel, owner, holder),
-        Filing::Fill { parcel, owner, holder, number, amount } => fill(words, parcel, owner, holder, number, amount),
-        Filing::Release { parcel, holder, number } => release(words, parcel, holder, number),
-        Filing::Postpone { parcel, holder, number } => postpone(words, parcel, holder, number),
-        Filing::Subdivide { parcel, owner, area } => subdivide(words, first, parcel, owner, area),
-        Filing::Merge { parcel, other, owner } => merge(words, first, parcel, other, owner),
+        Filing::Charge {
+            parcel,
+            owner,
+            holder,
+            amount,
+        } => charge(words, number, parcel, owner, holder, amount),
+        Filing::Reserve {
+            parcel,
+            owner,
+            holder,
+        } => reserve(words, number, parcel, owner, holder),
+        Filing::Fill {
+            parcel,
+            owner,
+            holder,
+            number,
+            amount,
+        } => fill(words, parcel, owner, holder, number, amount),
+        Filing::Release {
+            parcel,
+            holder,
+            number,
+        } => release(words, parcel, holder, number),
+        Filing::Postpone {
+            parcel,
+            holder,
+            number,
+        } => postpone(words, parcel, holder, number),
+        Filing::Subdivide {
+            parcel,
+            owner,
+            area,
+        } => subdivide(words, first, parcel, owner, area),
+        Filing::Merge {
+            parcel,
+            other,
+            owner,
+        } => merge(words, first, parcel, other, owner),
     }
 }
 
@@ -148,7 +211,12 @@ fn judge(words: &mut [u64], first: usize, number: u16, filing: Filing) -> Outcom
 
 // Enters filing `number` in a register that was opened with `parcels`, or says why it is rejected and changes nothing.
 // Memory that has no room for what the filing may make is refused, and is as it was.
-pub fn enter(words: &mut [u64], parcels: u16, number: u16, filing: Filing) -> Result<Outcome, Refusal>
+pub fn enter(
+    words: &mut [u64],
+    parcels: u16,
+    number: u16,
+    filing: Filing,
+) -> Result<Outcome, Refusal>
     ensures answer { λ r. ⌜ r ≡ entering parcels number filing (now (words .entry)) ⌝ }
     ensures words { λ _. ⌜ now (words .exit) ≡ words-entered parcels number filing (now (words .entry)) ⌝ }
     ensures register { λ _. ⌜ page-at (now (words .exit)) ≡ register-entered parcels number filing (now (words .entry)) ⌝ }

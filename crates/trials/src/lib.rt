@@ -4,6 +4,8 @@ mod acts;
 #[cfg(test)]
 mod files;
 #[cfg(test)]
+mod filings_read;
+#[cfg(test)]
 mod openings;
 #[cfg(test)]
 mod registers;
