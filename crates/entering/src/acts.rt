@@ -20,7 +20,7 @@ fn owned(page: &Page, owner: u32) -> Result<(), Rejection>
     Ok(())
 }
 
-pub fn transferred(page: Page, owner: u32, to: u32) -> Result<Page, Rejection>
+pub(crate) fn transferred(page: Page, owner: u32, to: u32) -> Result<Page, Rejection>
     ensures { λ r. ⌜ mapped sheet (λ e. e) r ≡ transferred (sheet page) owner to ⌝ }
 {
     owned(&page, owner)?;
@@ -36,7 +36,7 @@ fn last(page: Page, entry: Entry) -> Result<Page, Rejection>
     Ok(page)
 }
 
-pub fn charged(
+pub(crate) fn charged(
     page: Page,
     number: u16,
     owner: u32,
@@ -57,7 +57,7 @@ pub fn charged(
     )
 }
 
-pub fn reserved(page: Page, number: u16, owner: u32, holder: u32) -> Result<Page, Rejection>
+pub(crate) fn reserved(page: Page, number: u16, owner: u32, holder: u32) -> Result<Page, Rejection>
     ensures { λ r. ⌜ mapped sheet (λ e. e) r ≡ kept-for (sheet page) number owner holder ⌝ }
 {
     owned(&page, owner)?;
@@ -82,7 +82,7 @@ fn entry_found(page: Option<Page>) -> Result<Page, Rejection>
     }
 }
 
-pub fn filled(
+pub(crate) fn filled(
     page: Page,
     owner: u32,
     holder: u32,
@@ -95,20 +95,20 @@ pub fn filled(
     entry_found(page.fill(number, holder, amount))
 }
 
-pub fn released(page: Page, holder: u32, number: u16) -> Result<Page, Rejection>
+pub(crate) fn released(page: Page, holder: u32, number: u16) -> Result<Page, Rejection>
     ensures { λ r. ⌜ mapped sheet (λ e. e) r ≡ released-by (sheet page) holder number ⌝ }
 {
     entry_found(page.release(number, holder))
 }
 
-pub fn postponed(page: Page, holder: u32, number: u16) -> Result<Page, Rejection>
+pub(crate) fn postponed(page: Page, holder: u32, number: u16) -> Result<Page, Rejection>
     ensures { λ r. ⌜ mapped sheet (λ e. e) r ≡ postponed-by (sheet page) holder number ⌝ }
 {
     entry_found(page.postpone(number, holder))
 }
 
 // Whether an owner may cut off so much of a parcel.
-pub fn divisible(page: &Page, owner: u32, area: u32) -> Result<(), Rejection>
+pub(crate) fn divisible(page: &Page, owner: u32, area: u32) -> Result<(), Rejection>
     ensures { λ r. ⌜ r ≡ divisible (sheet (now (page .entry))) owner area (Ok tt) ⌝ }
 {
     owned(page, owner)?;
@@ -119,7 +119,7 @@ pub fn divisible(page: &Page, owner: u32, area: u32) -> Result<(), Rejection>
 }
 
 // Whether an owner may join these two parcels.
-pub fn mergeable(
+pub(crate) fn mergeable(
     parcel: u16,
     other: u16,
     page: &Page,

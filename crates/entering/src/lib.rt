@@ -1,4 +1,4 @@
 // Entering a filing: what it makes of the pages, or why it is rejected.
-pub mod acts;
+mod acts;
 pub mod enter;
 pub mod outcome;
