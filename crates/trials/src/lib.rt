@@ -9,3 +9,5 @@ mod filings_read;
 mod openings;
 #[cfg(test)]
 mod registers;
+#[cfg(test)]
+mod summer;
