@@ -11,30 +11,38 @@ use std::test::*;
 
 const OPENING: [u8; 16] = [5, 0, 0, 0, 100, 0, 0, 0, 5, 0, 0, 0, 50, 0, 0, 0];
 
-fn first_six(number: u16) -> Filing {
+fn charge(parcel: u16, holder: u32, amount: u64) -> Filing {
+    let owner = 5;
+    Filing::Charge {
+        parcel,
+        owner,
+        holder,
+        amount,
+    }
+}
+
+fn transfer(parcel: u16, owner: u32, to: u32) -> Filing {
+    Filing::Transfer { parcel, owner, to }
+}
+
+fn merger(parcel: u16, other: u16, owner: u32) -> Filing {
+    Filing::Merge {
+        parcel,
+        other,
+        owner,
+    }
+}
+
+fn summer(number: u16) -> Filing {
     match number {
-        0 => Filing::Charge {
-            parcel: 0,
-            owner: 5,
-            holder: 9,
-            amount: 1000,
-        },
+        0 => charge(0, 9, 1000),
         1 => Filing::Reserve {
             parcel: 0,
             owner: 5,
             holder: 7,
         },
-        2 => Filing::Charge {
-            parcel: 0,
-            owner: 5,
-            holder: 8,
-            amount: 500,
-        },
-        3 => Filing::Transfer {
-            parcel: 1,
-            owner: 5,
-            to: 6,
-        },
+        2 => charge(0, 8, 500),
+        3 => transfer(1, 5, 6),
         4 => Filing::Fill {
             parcel: 0,
             owner: 5,
@@ -42,53 +50,26 @@ fn first_six(number: u16) -> Filing {
             number: 1,
             amount: 2000,
         },
-        _ => Filing::Postpone {
+        5 => Filing::Postpone {
             parcel: 0,
             holder: 9,
             number: 0,
         },
-    }
-}
-
-fn summer(number: u16) -> Filing {
-    match number {
         6 => Filing::Subdivide {
             parcel: 0,
             owner: 5,
             area: 40,
         },
-        7 => Filing::Transfer {
-            parcel: 14,
-            owner: 5,
-            to: 6,
-        },
+        7 => transfer(14, 5, 6),
         8 => Filing::Release {
             parcel: 15,
             holder: 8,
             number: 2,
         },
-        9 => Filing::Merge {
-            parcel: 14,
-            other: 15,
-            owner: 5,
-        },
-        10 => Filing::Charge {
-            parcel: 0,
-            owner: 5,
-            holder: 4,
-            amount: 1,
-        },
-        11 => Filing::Merge {
-            parcel: 15,
-            other: 15,
-            owner: 5,
-        },
-        12 => Filing::Merge {
-            parcel: 14,
-            other: 1,
-            owner: 6,
-        },
-        _ => first_six(number),
+        9 => merger(14, 15, 5),
+        10 => charge(0, 4, 1),
+        11 => merger(15, 15, 5),
+        _ => merger(14, 1, 6),
     }
 }
 
