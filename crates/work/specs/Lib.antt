@@ -1,0 +1,5 @@
+pub mod Asking
+pub mod Calls
+pub mod Listed
+pub mod Marks
+pub mod State
