@@ -2,6 +2,7 @@
 ghost use Rattle.std.specs.Prelude.{◌≡◌, Decides};
 ghost use Rattle.std.specs.Cmp.Rules.{comparing};
 ghost use Rattle.std.proofs.Common.{rules};
+ghost use Rattle.entries.specs.Order.{same, same_claim};
 
 #[derive(Clone, Copy)]
 pub enum Claim {
@@ -26,11 +27,14 @@ pub const BLANK: Entry = Entry {
 };
 
 impl PartialEq for Claim {
-    ghost equals = { λ a b r. Decides r (a ≡ b) };
+    ghost eq = { same_claim };
 
     ghost laws = { Prim.search (comparing, rules) };
 
-    fn eq(&self, other: &Claim) -> bool {
+    fn eq(&self, other: &Claim) -> bool
+        ensures value { result ≡ same_claim self.now other.now }
+        ensures decides { Decides result (self.now ≡ other.now) }
+    {
         match (*self, *other) {
             (Claim::Charge(a), Claim::Charge(b)) => a == b,
             (Claim::Reserved, Claim::Reserved) => true,
@@ -40,11 +44,14 @@ impl PartialEq for Claim {
 }
 
 impl PartialEq for Entry {
-    ghost equals = { λ a b r. Decides r (a ≡ b) };
+    ghost eq = { same };
 
     ghost laws = { Prim.search (comparing, rules) };
 
-    fn eq(&self, other: &Entry) -> bool {
+    fn eq(&self, other: &Entry) -> bool
+        ensures value { result ≡ same self.now other.now }
+        ensures decides { Decides result (self.now ≡ other.now) }
+    {
         self.number == other.number && self.holder == other.holder && self.claim == other.claim
     }
 }

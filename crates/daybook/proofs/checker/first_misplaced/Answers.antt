@@ -22,7 +22,7 @@ loop-place-preserved c =
     let next =
     on_done ns (image_of c.args.registry.now) (get_or ns i 0) (drop (suc i) ns) i (image_of c.loop-place.registry) (image_of c.work.new.self)
     (subst (λ l. SoFar l ns i (image_of c.args.registry.now) (image_of c.loop-place.registry)) (drop-cons ns i 0 c.loop-place-test.true) c.loop-place.invariant)
-    c.in-default.field-0 c.in-default.ensures
+    c.in_default.field-0 c.in_default.ensures
     in
     subst (λ (k : ℕ). SoFar (drop k ns) ns k (image_of c.args.registry.now) (image_of c.work.new.self)) (sym (add-one i)) next
 

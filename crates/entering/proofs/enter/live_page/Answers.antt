@@ -7,8 +7,8 @@ use Rattle.entering.proofs.enter.live_page.Goals as goal
 
 pub returns : goal.returns
 returns c =
-    let live : (page_at c.args.words.now c.args.parcel).live ≡ true = ap (λ (s : Sheet). s.live) (sym c.read-page-page.ensures) ∙ sym c.if-not-live.ensures in
+    let live : (page_at c.args.words.now c.args.parcel).live ≡ true = ap (λ (s : Sheet). s.live) (sym c.read_page-page.ensures) ∙ sym c.if-not-live.ensures in
     record {
-      page = ap Ok c.read-page-page.ensures ∙ sym (cond-true _ _ _ live);
+      page = ap Ok c.read_page-page.ensures ∙ sym (cond-true _ _ _ live);
       within = live_within c.args.words.now c.args.parcel live;
     }

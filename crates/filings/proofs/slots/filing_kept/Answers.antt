@@ -5,8 +5,8 @@ use Rattle.filings.specs.Reading.{reading}
 use Rattle.filings.proofs.Keeping.{of_its_kind}
 use Rattle.filings.proofs.slots.filing_kept.Goals as goal
 
-pub returns-in-default : goal.returns-in-default
-returns-in-default c = of_its_kind c.args.slot.now _ c.in-default.ensures
+pub returns-in_default : goal.returns-in_default
+returns-in_default c = of_its_kind c.args.slot.now _ c.in_default.ensures
 
 pub returns : goal.returns
 returns c =

@@ -3,4 +3,4 @@ use Rattle.filings.proofs.Keeping.{padded_is}
 use Rattle.filings.proofs.slots.padded.Goals as goal
 
 pub returns : goal.returns
-returns c = padded_is c.args.bytes.now c.copy-from-slice.new.self c.min-long.result c.min-long.ensures c.copy-from-slice.ensures.after
+returns c = padded_is c.args.bytes.now c.copy_from_slice.new.self c.min-long.result c.min-long.ensures c.copy_from_slice.ensures.after

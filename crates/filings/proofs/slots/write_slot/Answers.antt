@@ -5,17 +5,17 @@ use Rattle.filings.specs.Keeping.{kept_at}
 use Rattle.filings.proofs.Keeping.{kept_put, kept_past, put_past, put_there}
 use Rattle.filings.proofs.slots.write_slot.Goals as goal
 
-pub returns-then-number-slots-room : goal.returns-then-number-slots-room
-returns-then-number-slots-room c =
+pub returns-then-number-slots_room : goal.returns-then-number-slots_room
+returns-then-number-slots_room c =
     let ms = c.args.slots.now in
     let n = c.args.number in
     let slot = c.args.slot.now in
-    let copied = ap (λ l. put_mid (24 * n) (24 * n + 24 - 24 * n) ms l) c.copy-from-slice.ensures.after in
+    let copied = ap (λ l. put_mid (24 * n) (24 * n + 24 - 24 * n) ms l) c.copy_from_slice.ensures.after in
     let is = copied ∙ put_there ms n slot c.requires (omega arith) _ (omega arith) in
     record { memory = is; kept = ap kept_at is ∙ kept_put ms n slot c.requires (omega arith) }
 
-pub returns-else-number-slots-room : goal.returns-else-number-slots-room
-returns-else-number-slots-room c = record {
+pub returns-else-number-slots_room : goal.returns-else-number-slots_room
+returns-else-number-slots_room c = record {
   memory = put_past c.args.slots.now c.args.number c.args.slot.now (omega arith);
   kept = kept_past c.args.slots.now c.args.number c.args.slot.now (omega arith);
 }

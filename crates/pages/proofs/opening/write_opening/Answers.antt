@@ -10,7 +10,7 @@ loop-parcel-init c = opened_none c.args.parcels c.args.pages.now c.args.words.no
 pub loop-parcel-preserved : goal.loop-parcel-preserved
 loop-parcel-preserved c =
     opened_more c.args.parcels c.args.pages.now c.args.words.now c.loop-parcel.parcel c.loop-parcel.words _ _ (omega arith) c.loop-parcel.invariant
-    c.opened_page.ensures (omega (arith, c.write-page.auto.words)) c.write-page.ensures.words c.write-page.ensures.register
+    c.opened_page.ensures (omega (arith, c.write_page.auto.words)) c.write_page.ensures.words c.write_page.ensures.register
 
 pub returns : goal.returns
 returns c =

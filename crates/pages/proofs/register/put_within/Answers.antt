@@ -6,8 +6,8 @@ use Rattle.pages.proofs.register.put_within.Goals as goal
 
 pub returns : goal.returns
 returns c =
-    let is = put_there c.args.words.now c.args.parcel (sheet c.args.page.now) c.requires _ c.put-words.ensures.words in
+    let is = put_there c.args.words.now c.args.parcel (sheet c.args.page.now) c.requires _ c.put_words.ensures.words in
     record {
       words = is;
-      register = ap page_at is ∙ page_put c.args.words.now c.args.parcel (sheet c.args.page.now) c.put-words.ensures.fits;
+      register = ap page_at is ∙ page_put c.args.words.now c.args.parcel (sheet c.args.page.now) c.put_words.ensures.fits;
     }

@@ -9,5 +9,5 @@ loop-i-init c = (refl, none_read c.args.words.now)
 pub loop-i-preserved : goal.loop-i-preserved
 loop-i-preserved c = (
   simp length-set c.loop-i.invariant.0,
-  entries_more c.loop-i.entries c.loop-i.i c.args.words.now c.entry-in.result (omega arith) c.loop-i.invariant.1 c.entry-in.ensures,
+  entries_more c.loop-i.entries c.loop-i.i c.args.words.now c.entry_in.result (omega arith) c.loop-i.invariant.1 c.entry_in.ensures,
 )

@@ -6,14 +6,14 @@ use Rattle.pages.proofs.words.put_words.Goals as goal
 
 pub loop-i-init : goal.loop-i-init
 loop-i-init c = (
-  written_head (sheet c.args.page.now) _ _ (c.copy-from-slice.ensures.after ∙ c.head_words.ensures.words),
+  written_head (sheet c.args.page.now) _ _ (c.copy_from_slice.ensures.after ∙ c.head_words.ensures.words),
   below_none _,
 )
 
 pub loop-i-preserved : goal.loop-i-preserved
 loop-i-preserved c = (
   written_more (sheet c.args.page.now) c.loop-i.i _ c.loop-i.words _ (omega (arith, c.loop-i.auto.words)) c.loop-i.invariant.0
-      (c.copy-from-slice-in-loop-i.ensures.after ∙ c.place_words.ensures.words ∙ ap place_words c.entry.ensures),
+      (c.copy_from_slice-in-loop-i.ensures.after ∙ c.place_words.ensures.words ∙ ap place_words c.entry.ensures),
   below_more _ _ c.loop-i.invariant.1 (subst FitsEntry c.entry.ensures c.place_words.ensures.fits),
 )
 

@@ -8,4 +8,4 @@ use Rattle.entries.proofs.page.Page.remove.Goals as goal
 pub returns : goal.returns
 returns c =
     let page = c.args.self in
-    ap (with_entries (sheet page)) (take_of_removed page.entries page.count (omega arith) c.args.k _ c.requires c.copy-from-slice.ensures.after)
+    ap (with_entries (sheet page)) (take_of_removed page.entries page.count (omega arith) c.args.k _ c.requires c.copy_from_slice.ensures.after)

@@ -11,4 +11,4 @@ returns-then-number-filed c =
     sym (nth_none (filed_in (kept_at c.args.self.now.filings.now) c.args.filed) c.args.number (omega arith))
 
 pub returns : goal.returns
-returns c = c.filing-at.ensures ∙ sym (filed_nth (kept_at c.args.self.now.filings.now) c.args.filed c.args.number c.requires (omega arith))
+returns c = c.filing_at.ensures ∙ sym (filed_nth (kept_at c.args.self.now.filings.now) c.args.filed c.args.number c.requires (omega arith))

@@ -19,11 +19,11 @@ pub returns-in-Ready : goal.returns-in-Ready
 returns-in-Ready c =
     ready_step (acts c.args.self.now.parcels) (desk_in (image_of c.args.self.now)) c.args.self.now.filed c.args.number _ c.requires c.in-Ready.ensures.answer
 
-pub returns-in-default : goal.returns-in-default
-returns-in-default c =
+pub returns-in_default : goal.returns-in_default
+returns-in_default c =
     let P = c.args.self.now.parcels in
     let d = desk_in (image_of c.args.self.now) in
     let m = c.args.self.now.filed in
     let n = c.args.number in
     ready_step (acts P) d m n (said c.ask.result) c.requires c.ask.ensures.answer ∙
-    ap (λ t. cond t (Some n) (ready_from (acts P) d (n + 1) (m - (n + 1)))) (not_ready P c.ask.result c.in-default.not-Ready)
+    ap (λ t. cond t (Some n) (ready_from (acts P) d (n + 1) (m - (n + 1)))) (not_ready P c.ask.result c.in_default.not-Ready)
