@@ -31,7 +31,7 @@ fn live_page(words: &[u64], parcel: u16) -> Result<Page, Rejection>
 // Writes what was made of a page, or hands on why nothing was.
 fn rewrite(words: &mut [u64], parcel: u16, made: Result<Page, Rejection>) -> Result<(), Rejection>
     requires { parcel < room words.old }
-    ensures { Done (alone parcel (result_map_both sheet (λ e. e) IfOk)) words.old result words.new }
+    ensures { Done (alone parcel (result_map_both sheet (λ e. e) made)) words.old result words.new }
 {
     let page = made?;
     write_page(words, parcel as usize, page);
