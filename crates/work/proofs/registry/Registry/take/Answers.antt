@@ -8,23 +8,20 @@ use Rattle.work.proofs.Admits.{all_kept, state_one_more}
 use Rattle.work.proofs.Promises.{onward_filed}
 use Rattle.work.proofs.registry.Registry.take.Goals as goal
 
-pub invariant-of-self : goal.invariant-of-self
-invariant-of-self c =
+pub invariant_of-self : goal.invariant_of-self
+invariant_of-self c =
     let a = c.requires.1 in
     let few = a.few in
     let pages = a.pages in
     let mark = a.mark in
     let long : length c.keep.new.self.marks.now ≡ length c.args.self.now.memory.marks.now = ap length c.keep.ensures.marks ∙ length-set c.args.self.now.memory.marks.now c.args.self.now.filed 0 in
-    let is = c.keep.ensures.kept ∙ ap (λ o. put_kept (slots_in c.args.self.now.memory.filings.now) c.args.self.now.filed o (kept_at c.args.self.now.memory.filings.now)) a.kept in (
-      omega arith,
-      (
-        subst (λ l. c.args.self.now.parcels + 2 * (c.args.self.now.filed + 1) ≤ room l) (sym c.keep.ensures.pages) (omega arith),
-        (
-          all_kept (kept_at c.args.self.now.memory.filings.now) _ (slots_in c.args.self.now.memory.filings.now) c.args.self.now.filed _ a.slot is c.args.self.now.kept,
-          (omega arith, tt),
-        ),
-      ),
-    )
+    let is = c.keep.ensures.kept ∙ ap (λ o. put_kept (slots_in c.args.self.now.memory.filings.now) c.args.self.now.filed o (kept_at c.args.self.now.memory.filings.now)) a.kept in
+    record {
+      few = omega arith;
+      wide = subst (λ l. c.args.self.now.parcels + 2 * (c.args.self.now.filed + 1) ≤ room l) (sym c.keep.ensures.pages) (omega arith);
+      kept = all_kept (kept_at c.args.self.now.memory.filings.now) _ (slots_in c.args.self.now.memory.filings.now) c.args.self.now.filed _ a.slot is c.args.self.now.kept;
+      marked = omega arith;
+    }
 
 pub returns : goal.returns
 returns c =
