@@ -33,7 +33,7 @@ struct Tail<'a> {
 }
 
 fn write_entry<W: fmt::Write>(f: &mut fmt::Formatter<W>, entry: Entry) -> fmt::Result
-    ensures { WritesOnOk write_str_gives f.old result (entry_line entry) f.new }
+    ensures { WritesOnOk W.write_str_gives f.old result (entry_line entry) f.new }
 {
     let number = entry.number;
     let holder = entry.holder;
@@ -78,7 +78,7 @@ fn life(live: bool) -> &'static str
 }
 
 fn write_there<W: fmt::Write>(f: &mut fmt::Formatter<W>, parcel: u16, page: &Page) -> fmt::Result
-    ensures { WritesOnOk write_str_gives f.old result (there_text parcel (sheet page.now)) f.new }
+    ensures { WritesOnOk W.write_str_gives f.old result (there_text parcel (sheet page.now)) f.new }
 {
     let owner = page.owner;
     let area = page.area;
