@@ -27,7 +27,7 @@ fn is_flag(word: &str, flag: Option<&str>) -> bool {
 }
 
 // What a program's words ask for, in any order; its usage is the error where they make no sense.
-pub(crate) fn asked(rt: &HostRuntime, flag: Option<&str>, usage: &str) -> anyhow::Result<Command> {
+pub(crate) fn asked(rt: &HostRuntime, flag: Option<&str>, usage: &'static str) -> anyhow::Result<Command> {
     let mut flagged = false;
     let mut file = None;
     let mut words = env::args(rt)?;
@@ -37,7 +37,7 @@ pub(crate) fn asked(rt: &HostRuntime, flag: Option<&str>, usage: &str) -> anyhow
             "--help" => return Ok(Command::Help),
             "--version" => return Ok(Command::Version),
             own if is_flag(own, flag) && !flagged => flagged = true,
-            other if other.starts_with("-") || file.is_some() => return Err(usage.into()),
+            other if other.starts_with("-") || file.is_some() => return Err(anyhow!(usage)),
             _ => file = Some(word),
         }
     }
