@@ -102,9 +102,8 @@ fn run(rt: &HostRuntime) -> anyhow::Result<()> {
 }
 
 pub fn register_work(rt: &HostRuntime) -> anyhow::Result<()> {
-    let result = run(rt);
-    if let Err(error) = &result {
-        let _ = eprintln!(rt; "register_work: {error}");
+    match run(rt) {
+        Ok(()) => Ok(()),
+        Err(error) => Err(anyhow!(format!(in rt.alloc(); "register_work: {error}")?)),
     }
-    result
 }

@@ -1,7 +1,8 @@
 // Extracts of the summer's two parcels and of what was made of them, before, amid and after the work.
 use extracts::error::ExtractError;
 use extracts::extract::Extract;
-use std::alloc::AllocError;
+use std::alloc::{AllocError, Global};
+use std::process::Abort;
 use std::test::*;
 use work::registry::Registry;
 
@@ -25,22 +26,22 @@ const MADE: &str = "parcel 15 owner 5 area 60 live
 open none";
 
 fn says(
-    rt: &HostRuntime,
+    heap: Global,
     registry: &Registry<'_>,
     parcel: u16,
     text: &str,
 ) -> Result<bool, AllocError> {
-    match Extract::of(registry, rt.alloc(), parcel) {
+    match Extract::of(registry, heap, parcel) {
         Ok(extract) => {
-            let shown = format!(in rt.alloc(); "{extract}")?;
+            let shown = format!(in heap; "{extract}")?;
             Ok(shown.as_str() == text)
         }
         Err(_) => Ok(false),
     }
 }
 
-fn is_refused(rt: &HostRuntime, registry: &Registry<'_>, parcel: u16) -> bool {
-    match Extract::of(registry, rt.alloc(), parcel) {
+fn is_refused(heap: Global, registry: &Registry<'_>, parcel: u16) -> bool {
+    match Extract::of(registry, heap, parcel) {
         Err(ExtractError::Refused(refusal)) => refusal.number() == 11 && refusal.place() == 0,
         _ => false,
     }
@@ -85,23 +86,23 @@ fn worked(registry: &mut Registry<'_>, from: u16, to: u16) -> bool {
     true
 }
 
-fn drawn(rt: &HostRuntime, registry: &mut Registry<'_>) -> Result<(), Fail> {
-    assert!(filed(registry));
-    assert!(says(rt, registry, 1, "parcel 1 owner 5 area 50 live\nopen 3 12")?);
-    assert!(says(rt, registry, 14, "parcel 14 not there\nopen 6 7 9 12")?);
-    assert!(worked(registry, 0, 4));
-    assert!(says(rt, registry, 0, RANKED)?);
-    assert!(worked(registry, 4, 7));
-    assert!(says(rt, registry, 0, CLOSED)?);
-    assert!(worked(registry, 7, 13));
-    assert!(says(rt, registry, 15, MADE)?);
+fn drawn(rt: &impl Abort, heap: Global, registry: &mut Registry<'_>) -> Result<(), Fail> {
+    assert!(rt; filed(registry));
+    assert!(rt; says(heap, registry, 1, "parcel 1 owner 5 area 50 live\nopen 3 12")?);
+    assert!(rt; says(heap, registry, 14, "parcel 14 not there\nopen 6 7 9 12")?);
+    assert!(rt; worked(registry, 0, 4));
+    assert!(rt; says(heap, registry, 0, RANKED)?);
+    assert!(rt; worked(registry, 4, 7));
+    assert!(rt; says(heap, registry, 0, CLOSED)?);
+    assert!(rt; worked(registry, 7, 13));
+    assert!(rt; says(heap, registry, 15, MADE)?);
     assert!(
-        says(rt, registry, 20, "parcel 20 not there\nopen none")?,
+        rt; says(heap, registry, 20, "parcel 20 not there\nopen none")?,
         "a rejected merger's"
     );
-    assert!(is_refused(rt, registry, 16), "a transfer makes none");
-    assert!(is_refused(rt, registry, 21), "a merger makes one");
-    assert!(is_refused(rt, registry, 28), "no filing 13");
+    assert!(rt; is_refused(heap, registry, 16), "a transfer makes none");
+    assert!(rt; is_refused(heap, registry, 21), "a merger makes one");
+    assert!(rt; is_refused(heap, registry, 28), "no filing 13");
     Ok(())
 }
 
@@ -115,5 +116,5 @@ fn extracts_of_a_summer(rt: HostRuntime) -> Result<(), Fail> {
         slots.as_mut_slice(),
         marks.as_mut_slice(),
     );
-    drawn(&rt, &mut registry)
+    drawn(&rt, rt.alloc(), &mut registry)
 }
