@@ -4,9 +4,9 @@ use Rattle.std.proofs.lemmas.Bool.{and_parts, cases_Bool, cond-true, cond-false,
 use Rattle.std.specs.List.{slice_get}
 use Rattle.orders.proofs.Kept.{Kept}
 use Rattle.orders.proofs.Places.{nth_some, nth_there}
-use Rattle.orders.proofs.Reached.{kept_reached}
+use Rattle.orders.proofs.Reached.{kept_reached, reached}
 use Rattle.orders.proofs.Rule.{accepted_is_done}
-use Rattle.orders.specs.Desk.{Answer, Desk, Reached, absent, finished, waits, ready, accepted, asked, first_open, if_ready, is_open, is_ready, logged, on_work, open_at, open_from, touched_by, turn, work, worked_all}
+use Rattle.orders.specs.Desk.{Answer, Desk, Reached, absent, finished, waits, ready, accepted, asked, first_open, if_ready, is_open, is_ready, logged, by_work, open_at, open_from, touched_by, turn, work, worked_all}
 use Rattle.orders.specs.Laws.{AsFiled}
 use Rattle.orders.specs.Orders.{Numbered, among}
 use Rattle.orders.specs.Steps.{Acts}
@@ -59,7 +59,7 @@ pub record Came (bytes : List ℕ) (s : State) : Type 0 where
 came_all : (bytes : List ℕ) (P : ℕ) (ns : List ℕ) (d : Desk _ _ _) → Came bytes (record { parcels = P; desk = d }) → Came bytes (record { parcels = P; desk = worked_all (acts P) d ns })
 unfolding worked_all
 came_all bytes P [] d came = came
-came_all bytes P (n ∷ ns) d came = came_all bytes P ns (work (acts P) d n) (record { log = _; from = record { opening = came.from.opening; reached = on_work came.from.reached n } })
+came_all bytes P (n ∷ ns) d came = came_all bytes P ns (work (acts P) d n) (record { log = _; from = record { opening = came.from.opening; reached = by_work came.from.reached n } })
 
 -- THE LIST
 
@@ -93,7 +93,7 @@ module _ (bytes : List ℕ) (s : State) (came : Came bytes s) (shut : (n : ℕ) 
             ap (λ k. turn (acts s.parcels) (opened_page s.parcels bytes) s.desk.filed k p) (none_open (acts s.parcels) s.desk p shut 0 (length s.desk.filed) ∙ omega arith);
         outcomes = λ n f is.
             let within = nth_some s.desk.filed n f is in
-            let size = (kept_reached (acts s.parcels) (filings_are_local s.parcels) (opened_page s.parcels bytes) came.from.reached).as_long in
+            let size = (kept_reached (acts s.parcels) (filings_are_local s.parcels) (opened_page s.parcels bytes) (reached (acts s.parcels) (filings_are_local s.parcels) (opened_page s.parcels bytes) came.from.reached)).as_long in
             let mark = nth_there s.desk.marks n (omega arith) in
             by_mark n f is mark.0 mark.1;
       }

@@ -3,7 +3,7 @@ use Rattle.std.proofs.Common.{◌≡◌, ℕ, zero, suc, ◌+◌, ◌-◌, ◌<�
 use Rattle.std.proofs.lemmas.Bool.{and_parts, cases_Bool, cases_eq, cases_lt, cond-true, cond-false, true≢false}
 use Rattle.std.specs.List.{slice_get}
 use Rattle.orders.specs.Desk.{Desk, Answer, absent, finished, waits, ready, is_open, open_at, all_open, shares_with, in_way, way_from, unless_waits, if_open, if_there, asked, worked_on, if_ready, work, is_ready, accepted, ready_from, FirstOpen}
-use Rattle.orders.specs.Laws.{Goes, GoesIsAccepted, NeverStuck}
+use Rattle.orders.specs.Laws.{FirstIsReady, Goes, GoesIsAccepted, NeverStuck}
 use Rattle.orders.specs.Orders.{Numbered, Holds, here, there, Before, first, later, Single, none, one, Apart, Lawful, numbered, numbers_of}
 use Rattle.orders.specs.Steps.{Acts, Local}
 use Rattle.orders.proofs.Kept.{Ready}
@@ -36,14 +36,16 @@ module _ {Page Act Result : Type 0} (w : Acts Page Act Result) (local : Local w)
       by_act None = refl
       by_act (Some b) = ap (λ t. is_ready w (if_open w t (unless_waits w b (way_from w d i b 0 i)))) shut
 
+  pub never_stuck : NeverStuck w
+  never_stuck d n a is_there still_open first_one = ready_if d n a (record { there = is_there; is_open = still_open; clear = λ i l. ap (λ t. t && shares_with w n a i (slice_get d.filed i)) (first_one i l) })
+
   first_ready : (d : Desk Page Act Result) (n : ℕ) (a : Act) → slice_get d.filed n ≡ Some a → FirstOpen d n → (i k : ℕ) → i ≤ n → n < i + k → ready_from w d i k ≡ Some n
   unfolding ready_from
   first_ready d n a is_there lead i zero l m = absurd (omega arith)
   first_ready d n a is_there lead i (suc k) l m =
       ⊎_elim
       (λ (here : i ≡ n).
-      let r : Ready w local d n a = record { there = is_there; is_open = lead.is_open; clear = λ j h. ap (λ t. t && shares_with w n a j (slice_get d.filed j)) (lead.before j h) } in
-      cond-true (is_ready w (asked w d i)) _ _ (ap (λ j. is_ready w (asked w d j)) here ∙ ap (is_ready w) (ready_if d n a r)) ∙ ap Some here)
+      cond-true (is_ready w (asked w d i)) _ _ (ap (λ j. is_ready w (asked w d j)) here ∙ ap (is_ready w) (never_stuck d n a is_there lead.is_open lead.before)) ∙ ap Some here)
       (λ (other : i ≡ n → ⊥).
       cond-false (is_ready w (asked w d i)) _ _ (shut_not_ready d i (lead.before i (omega arith))) ∙ first_ready d n a is_there lead (suc i) k (omega arith) (omega arith))
       (cases_eq i n)
@@ -57,8 +59,8 @@ module _ {Page Act Result : Type 0} (w : Acts Page Act Result) (local : Local w)
   open_within : (d : Desk Page Act Result) (n : ℕ) → open_at d n ≡ true → n < length d.marks
   open_within d n o = ⊎_elim (λ h. h) (λ (h : length d.marks ≤ n). absurd (true≢false (sym o ∙ ap is_open (nth_none d.marks n h)))) (cases_lt n (length d.marks))
 
-  pub never_stuck : NeverStuck w
-  never_stuck start ys d r n lead =
+  pub first_is_ready : FirstIsReady w
+  first_is_ready start d r n lead =
       let size = (kept_reached w local start r).as_long in
       let within = open_within d n lead.is_open in
       let found = nth_there d.filed n (omega arith) in

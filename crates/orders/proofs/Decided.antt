@@ -27,20 +27,20 @@ module _ {Page Act Result : Type 0} (w : Acts Page Act Result) (local : Local w)
     same_first p i zero = refl
     same_first p i (suc k) = λ t. cond (opens i t && touched_by w i (slice_get (filed t) i) p) i (same_first p (suc i) k t)
 
-    module _ (start : ℕ → Page) (ys zs : List (Numbered Act)) (r : Reached w start ys d) (s : Reached w start zs e) where
+    module _ (start : ℕ → Page) (r : Reached w start d) (s : Reached w start e) where
       same_page : (p : ℕ) → d.register p ≡ e.register p
       same_page p =
-          (order_of_work_unseen w local start ys d r).page p ∙
+          (order_of_work_unseen w local start d r).page p ∙
           (λ t. turn w start (filed t) ((same_first p 0 (length d.filed) ∙ ap (λ l. open_from w e p 0 (length l)) filed) t) p) ∙
-          sym ((order_of_work_unseen w local start zs e s).page p)
+          sym ((order_of_work_unseen w local start e s).page p)
 
       same_mark : (n : ℕ) (a : Act) → slice_get d.filed n ≡ Some a → (x y : Option Result) → slice_get d.marks n ≡ Some x → slice_get e.marks n ≡ Some y → x ≡ y
       same_mark n a is None None p q = refl
       same_mark n a is None (Some o) p q = absurd (true≢false (sym (ap is_open p) ∙ opens n ∙ ap is_open q))
       same_mark n a is (Some o) None p q = absurd (true≢false (sym (ap is_open q) ∙ sym (opens n) ∙ ap is_open p))
       same_mark n a is (Some o) (Some u) p q =
-          let here = (order_of_work_unseen w local start ys d r).outcome n a o is p in
-          let there = (order_of_work_unseen w local start zs e s).outcome n a u (subst (λ l. slice_get l n ≡ Some a) filed is) q in
+          let here = (order_of_work_unseen w local start d r).outcome n a o is p in
+          let there = (order_of_work_unseen w local start e s).outcome n a u (subst (λ l. slice_get l n ≡ Some a) filed is) q in
           ap Some (here ∙ (λ t. w.outcome n a (turn w start (filed t) n)) ∙ sym there)
 
       same_place : (n : ℕ) → slice_get d.marks n ≡ slice_get e.marks n
@@ -58,9 +58,9 @@ module _ {Page Act Result : Type 0} (w : Acts Page Act Result) (local : Local w)
           (cases_lt n (length d.filed))
 
   pub only_done_counts : OnlyDoneCounts w
-  only_done_counts start ys zs d e r s filed opens =
+  only_done_counts start d e r s filed opens =
       λ t. record {
-        register = λ p. same_page d e filed opens start ys zs r s p t;
+        register = λ p. same_page d e filed opens start r s p t;
         filed = filed t;
-        marks = same_places d.marks e.marks (same_place d e filed opens start ys zs r s) t;
+        marks = same_places d.marks e.marks (same_place d e filed opens start r s) t;
       }

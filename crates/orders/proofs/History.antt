@@ -3,14 +3,14 @@ use Rattle.std.proofs.Common.{◌≡◌, ℕ, ◌<◌, ◌≤◌, true, false, �
 use Rattle.std.proofs.lemmas.List.{length_push}
 use Rattle.std.proofs.lemmas.Bool.{cases_Bool, cases_eq, cases_lt, true≢false}
 use Rattle.std.specs.List.{slice_get}
-use Rattle.orders.specs.Desk.{Desk, Answer, absent, finished, waits, ready, is_open, open_at, opened, filed_more, asked, worked_on, if_ready, work, logged, touched_by, Reached, at_opening, on_filing, on_work}
+use Rattle.orders.specs.Desk.{Desk, Answer, absent, finished, waits, ready, is_open, open_at, opened, filed_more, asked, worked_on, if_ready, work, logged, touched_by, ReachedBy, by_opening, by_filing, by_work}
 use Rattle.orders.specs.Laws.{InOrder, WorkedInOrder}
 use Rattle.orders.specs.Orders.{Numbered, Holds, here, there, Before, first, later, Single, none, one, Apart}
 use Rattle.orders.specs.Steps.{Acts, Local}
 use Rattle.orders.proofs.Accepted.{closes, leaves}
 use Rattle.orders.proofs.Kept.{Kept, Ready}
 use Rattle.orders.proofs.Places.{nth_front, nth_last, nth_some}
-use Rattle.orders.proofs.Reached.{kept_reached, ready_means}
+use Rattle.orders.proofs.Reached.{kept_reached, reached, ready_means}
 
 -- ONE MORE AT THE END
 
@@ -138,11 +138,11 @@ module _ {Page Act Result : Type 0} (w : Acts Page Act Result) (local : Local w)
     on_asked d n ys kept so_far (waits i) e = so_far
     on_asked d n ys kept so_far (ready a) e = on_worked start d n a ys kept so_far (ready_means w local d n a e)
 
-    by_steps : {ys : List (Numbered Act)} {d : Desk Page Act Result} → Reached w start ys d → InOrder w d ys
+    by_steps : {ys : List (Numbered Act)} {d : Desk Page Act Result} → ReachedBy w start ys d → InOrder w d ys
     unfolding work
-    by_steps at_opening = at_the_opening start
-    by_steps (on_filing {ys} {d} r a) = on_more start d a ys (kept_reached w local start r) (by_steps r)
-    by_steps (on_work {ys} {d} r n) = on_asked d n ys (kept_reached w local start r) (by_steps r) (asked w d n) refl
+    by_steps by_opening = at_the_opening start
+    by_steps (by_filing {ys} {d} r a) = on_more start d a ys (kept_reached w local start (reached w local start r)) (by_steps r)
+    by_steps (by_work {ys} {d} r n) = on_asked d n ys (kept_reached w local start (reached w local start r)) (by_steps r) (asked w d n) refl
 
   pub worked_in_order : WorkedInOrder w
   worked_in_order start ys d r = by_steps start r

@@ -2,7 +2,7 @@
 use Rattle.std.proofs.Common.{◌≡◌, ℕ, zero, suc, ◌+◌, ◌<◌, ◌≤◌, Bool, true, false, cond, ◌&&◌, List, [], ◌∷◌, length, Some, None, Option, sym, refl, ap, ◌∙◌, subst, ⊎_elim, arith}
 use Rattle.std.proofs.lemmas.Bool.{and_left, and_right, and_parts, cases_Bool, cases_eq, cases_lt, cond-true, cond-false, true≢false}
 use Rattle.std.specs.List.{slice_get}
-use Rattle.orders.specs.Desk.{Desk, Answer, absent, finished, waits, ready, open_at, shares_with, in_way, way_from, unless_waits, if_open, if_there, asked, worked_on, if_ready, work, Reached, at_opening, on_filing, on_work, turn, touched_by, open_from, first_open, is_open, worked_all}
+use Rattle.orders.specs.Desk.{Desk, Answer, absent, finished, waits, ready, open_at, shares_with, in_way, way_from, unless_waits, if_open, if_there, asked, worked_on, if_ready, work, Reached, at_opening, on_filing, on_work, ReachedBy, by_opening, by_filing, by_work, turn, touched_by, open_from, first_open, is_open, worked_all}
 use Rattle.orders.specs.Laws.{AsFiled, OrderOfWorkUnseen, UntouchedIsFinal}
 use Rattle.orders.specs.Orders.{Numbered}
 use Rattle.orders.specs.Steps.{Acts, Local}
@@ -66,10 +66,16 @@ module _ {Page Act Result : Type 0} (w : Acts Page Act Result) (local : Local w)
     unfolding work
     kept_work d n kept = kept_asked d n kept (asked w d n) refl
 
-    pub kept_reached : {ys : List (Numbered Act)} {d : Desk Page Act Result} → Reached w start ys d → Kept w local start d
+    pub kept_reached : {d : Desk Page Act Result} → Reached w start d → Kept w local start d
     kept_reached at_opening = kept_opened w local start
-    kept_reached (on_filing {ys} {d} r a) = kept_filed w local start d a (kept_reached r)
-    kept_reached (on_work {ys} {d} r n) = kept_work d n (kept_reached r)
+    kept_reached (on_filing {d} r a) = kept_filed w local start d a (kept_reached r)
+    kept_reached (on_work {d} r n) = kept_work d n (kept_reached r)
+
+    -- whatever was worked so far
+    pub reached : {ys : List (Numbered Act)} {d : Desk Page Act Result} → ReachedBy w start ys d → Reached w start d
+    reached by_opening = at_opening
+    reached (by_filing {ys} {d} r a) = on_filing (reached r) a
+    reached (by_work {ys} {d} r n) = on_work (reached r) n
 
   -- THE FIRST OPEN ACT THAT TOUCHES A PAGE
 
@@ -133,7 +139,7 @@ module _ {Page Act Result : Type 0} (w : Acts Page Act Result) (local : Local w)
           (cases_lt f (length d.filed))
 
   pub order_of_work_unseen : OrderOfWorkUnseen w
-  order_of_work_unseen start ys d r = as_filed start d (kept_reached start r)
+  order_of_work_unseen start d r = as_filed start d (kept_reached start r)
 
   -- A PAGE THAT NO OPEN ACT TOUCHES
 

@@ -119,11 +119,17 @@ module _ {Page Act Result : Type 0} (w : Acts Page Act Result) where
   logged (waits i) n ys = ys
   logged (ready a) n ys = ys ++ record { number = n; act = a } ∷ []
 
-  -- what comes about from an opening by any interleaving of filing and asking, with what was worked so far
-  pub data Reached (start : ℕ → Page) : List (Numbered Act) → Desk Page Act Result → Type 0 where
-    at_opening : Reached start [] (opened start)
-    on_filing : {ys : List (Numbered Act)} {d : Desk Page Act Result} → Reached start ys d → (a : Act) → Reached start ys (filed_more d a)
-    on_work : {ys : List (Numbered Act)} {d : Desk Page Act Result} → Reached start ys d → (n : ℕ) → Reached start (logged (asked d n) n ys) (work d n)
+  -- what comes about from an opening by any interleaving of filing and asking
+  pub data Reached (start : ℕ → Page) : Desk Page Act Result → Type 0 where
+    at_opening : Reached start (opened start)
+    on_filing : {d : Desk Page Act Result} → Reached start d → (a : Act) → Reached start (filed_more d a)
+    on_work : {d : Desk Page Act Result} → Reached start d → (n : ℕ) → Reached start (work d n)
+
+  -- the same, with what was worked so far
+  pub data ReachedBy (start : ℕ → Page) : List (Numbered Act) → Desk Page Act Result → Type 0 where
+    by_opening : ReachedBy start [] (opened start)
+    by_filing : {ys : List (Numbered Act)} {d : Desk Page Act Result} → ReachedBy start ys d → (a : Act) → ReachedBy start ys (filed_more d a)
+    by_work : {ys : List (Numbered Act)} {d : Desk Page Act Result} → ReachedBy start ys d → (n : ℕ) → ReachedBy start (logged (asked d n) n ys) (work d n)
 
   -- THE ORDER OF FILING
 

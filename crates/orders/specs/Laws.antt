@@ -1,7 +1,7 @@
 -- What is promised of orders of work, for acts of whatever kinds. Assumes nothing.
 use Rattle.std.specs.Prelude.{◌≡◌, ℕ, ◌<◌, Bool, true, false, not, ◌&&◌, List, length, Some, None, Option}
 use Rattle.std.specs.List.{slice_get}
-use Rattle.orders.specs.Desk.{Desk, FirstOpen, Reached, turn, first_open, open_at, all_open, accepted, ready_from, touched_by, worked_all}
+use Rattle.orders.specs.Desk.{Desk, FirstOpen, Reached, ReachedBy, turn, first_open, open_at, all_open, asked, ready, accepted, ready_from, touched_by, worked_all}
 use Rattle.orders.specs.Orders.{Numbered, Holds, Before, among, Single, Apart, Exchanged, Lawful, worked, outcome_in, numbered, numbers_of}
 use Rattle.orders.specs.Steps.{Acts}
 
@@ -30,12 +30,12 @@ module _ {Page Act Result : Type 0} (w : Acts Page Act Result) where
     pub outcome : (n : ℕ) (a : Act) (o : Result) → slice_get d.filed n ≡ Some a → slice_get d.marks n ≡ Some (Some o) → o ≡ w.outcome n a (turn w start d.filed n)
 
   abbrev pub OrderOfWorkUnseen : Type 0
-  OrderOfWorkUnseen = (start : ℕ → Page) (ys : List (Numbered Act)) (d : Desk Page Act Result) → Reached w start ys d → AsFiled start d
+  OrderOfWorkUnseen = (start : ℕ → Page) (d : Desk Page Act Result) → Reached w start d → AsFiled start d
 
   -- Of the same acts only those that are done count, and not in which order they were worked, nor what was asked for in between.
   abbrev pub OnlyDoneCounts : Type 0
   OnlyDoneCounts =
-      (start : ℕ → Page) (ys zs : List (Numbered Act)) (d e : Desk Page Act Result) → Reached w start ys d → Reached w start zs e →
+      (start : ℕ → Page) (d e : Desk Page Act Result) → Reached w start d → Reached w start e →
       d.filed ≡ e.filed → ((n : ℕ) → open_at d n ≡ open_at e n) → d ≡ e
 
   -- Just the lawful orders are accepted: orders of all that was filed, in which each number is worked when it is asked for.
@@ -56,7 +56,7 @@ module _ {Page Act Result : Type 0} (w : Acts Page Act Result) where
     pub in_order : (x y : Numbered Act) → Holds x ys → Holds y ys → x.number < y.number → (Apart w x y → ⊥) → Before x y ys
 
   abbrev pub WorkedInOrder : Type 0
-  WorkedInOrder = (start : ℕ → Page) (ys : List (Numbered Act)) (d : Desk Page Act Result) → Reached w start ys d → InOrder d ys
+  WorkedInOrder = (start : ℕ → Page) (ys : List (Numbered Act)) (d : Desk Page Act Result) → ReachedBy w start ys d → InOrder d ys
 
   -- Open acts, each once, and each behind all open ones that were filed before it and share a page with it.
   pub record Goes (d : Desk Page Act Result) (ys : List (Numbered Act)) : Type 0 where
@@ -81,9 +81,14 @@ module _ {Page Act Result : Type 0} (w : Acts Page Act Result) where
   AcceptedIsDone =
       (ns : List ℕ) (d : Desk Page Act Result) → accepted w d ns ≡ true → (n : ℕ) → open_at (worked_all w d ns) n ≡ (open_at d n && not (among n ns))
 
-  -- the clerks are never stuck: the first open act is the first that can be worked
+  -- the clerks are never stuck: the first open act can be worked
   abbrev pub NeverStuck : Type 0
-  NeverStuck = (start : ℕ → Page) (ys : List (Numbered Act)) (d : Desk Page Act Result) → Reached w start ys d → (n : ℕ) → FirstOpen d n → ready_from w d 0 (length d.filed) ≡ Some n
+  NeverStuck =
+      (d : Desk Page Act Result) (n : ℕ) (a : Act) → slice_get d.filed n ≡ Some a → open_at d n ≡ true → ((i : ℕ) → i < n → open_at d i ≡ false) → asked w d n ≡ ready a
+
+  -- and it is the first that can
+  abbrev pub FirstIsReady : Type 0
+  FirstIsReady = (start : ℕ → Page) (d : Desk Page Act Result) → Reached w start d → (n : ℕ) → FirstOpen d n → ready_from w d 0 (length d.filed) ≡ Some n
 
   -- a page that no open act touches is final: whatever is asked for of what was filed, it stays as it is
   abbrev pub UntouchedIsFinal : Type 0

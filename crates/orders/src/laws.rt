@@ -1,6 +1,6 @@
 // Each function carries the theorems that its contract names, for pages, acts and outcomes of any types.
 ghost use Rattle.orders.specs.Laws.{Exchange, ExchangedIsLawful, LawfulIsExchanged, LawfulOrdersAgree};
-ghost use Rattle.orders.specs.Laws.{AcceptedGoes, AcceptedIsDone, AcceptedIsLawful, GoesIsAccepted, LawfulIsAccepted, NeverStuck};
+ghost use Rattle.orders.specs.Laws.{AcceptedGoes, AcceptedIsDone, AcceptedIsLawful, FirstIsReady, GoesIsAccepted, LawfulIsAccepted, NeverStuck};
 ghost use Rattle.orders.specs.Laws.{OnlyDoneCounts, OrderOfWorkUnseen, UntouchedIsFinal, WorkedInOrder};
 ghost use Rattle.orders.specs.Steps.{Acts, Local};
 
@@ -20,6 +20,7 @@ pub fn rule_is_lawful<Page, Act, Outcome>()
     ensures only { (w : Acts Page Act Outcome) → Local w → AcceptedGoes w }
     ensures done { (w : Acts Page Act Outcome) → Local w → AcceptedIsDone w }
     ensures stuck { (w : Acts Page Act Outcome) → Local w → NeverStuck w }
+    ensures first { (w : Acts Page Act Outcome) → Local w → FirstIsReady w }
 {}
 
 // From an opening on, by any interleaving of filing and asking, every page and outcome is that of the order of filing,

@@ -1,10 +1,10 @@
 -- The promises are kept: the laws of orders at filings, which are local, carried along each call. Assumes nothing.
 use Rattle.std.proofs.Common.{◌≡◌, ℕ, ◌≤◌, true, false, List, [], length, IfErr, Ok, Err, Result, sym, refl, ap, ◌∙◌, subst, arith}
-use Rattle.orders.proofs.Accepted.{goes_is_accepted, never_stuck}
+use Rattle.orders.proofs.Accepted.{first_is_ready, goes_is_accepted}
 use Rattle.orders.proofs.Decided.{only_done_counts}
 use Rattle.orders.proofs.History.{worked_in_order}
-use Rattle.orders.proofs.Reached.{first_is, order_of_work_unseen, untouched_is_final}
-use Rattle.orders.specs.Desk.{Answer, Reached, absent, finished, waits, ready, asked, at_opening, first_open, if_ready, logged, on_filing, on_work, open_at, opened, turn, work}
+use Rattle.orders.proofs.Reached.{first_is, order_of_work_unseen, reached, untouched_is_final}
+use Rattle.orders.specs.Desk.{Answer, Reached, ReachedBy, absent, finished, waits, ready, asked, by_filing, by_opening, by_work, first_open, if_ready, logged, open_at, opened, turn, work}
 use Rattle.orders.specs.Laws.{AsFiled}
 use Rattle.orders.specs.Orders.{Numbered}
 use Rattle.entries.specs.Order.{all_below, distinct}
@@ -25,15 +25,18 @@ use Rattle.work.specs.Promises.{Begun, Files, From, Onward, Promised, Works}
 use Rattle.work.specs.State.{Image, State, desk_in, state_in}
 
 module _ (bytes : List ℕ) (ys : List (Numbered Filing)) (s : State) (from : From bytes ys s) where
+  came : Reached (acts s.parcels) (opened_page s.parcels bytes) s.desk
+  came = reached (acts s.parcels) (filings_are_local s.parcels) (opened_page s.parcels bytes) from.reached
+
   as_filed : AsFiled (acts s.parcels) (opened_page s.parcels bytes) s.desk
-  as_filed = order_of_work_unseen (acts s.parcels) (filings_are_local s.parcels) (opened_page s.parcels bytes) ys s.desk from.reached
+  as_filed = order_of_work_unseen (acts s.parcels) (filings_are_local s.parcels) (opened_page s.parcels bytes) s.desk came
 
   decided :
       (zs : List (Numbered Filing)) (t : State) → From bytes zs t → t.parcels ≡ s.parcels → t.desk.filed ≡ s.desk.filed →
       ((n : ℕ) → open_at t.desk n ≡ open_at s.desk n) → t ≡ s
   decided zs t other parcels filed opens =
-      let reached = subst (λ P. Reached (acts P) (opened_page P bytes) zs t.desk) parcels other.reached in
-      let same = only_done_counts (acts s.parcels) (filings_are_local s.parcels) (opened_page s.parcels bytes) zs ys t.desk s.desk reached from.reached filed opens in
+      let there = reached (acts s.parcels) (filings_are_local s.parcels) (opened_page s.parcels bytes) (subst (λ P. ReachedBy (acts P) (opened_page P bytes) zs t.desk) parcels other.reached) in
+      let same = only_done_counts (acts s.parcels) (filings_are_local s.parcels) (opened_page s.parcels bytes) t.desk s.desk there came filed opens in
       λ i. record { parcels = parcels i; desk = same i }
 
   pub promised : Promised bytes ys s
@@ -50,7 +53,7 @@ module _ (bytes : List ℕ) (ys : List (Numbered Filing)) (s : State) (from : Fr
         only_done_counts = decided;
         in_order = worked_in_order (acts P) local start ys d from.reached;
         goes_on = λ zs goes. goes_is_accepted (acts P) local d zs goes;
-        never_stuck = λ n lead. never_stuck (acts P) local start ys d from.reached n lead;
+        never_stuck = λ n lead. first_is_ready (acts P) local start d came n lead;
         settled = λ p free ns. untouched_is_final (acts P) local d p free ns;
         rank = λ p k h never stands.
             subst (λ x. all_below k (numbers (ahead k h x.entries)) ≡ true) (sym (page p))
@@ -69,12 +72,12 @@ onward_same s = onward s s (λ ys. ys) (λ bytes ys from. from)
 
 pub onward_filed : (s after : State) (f : Filing) → after ≡ state_filed (Ok f) s → Onward s after (λ ys. ys)
 onward_filed s after f e =
-    onward s after (λ ys. ys) (λ bytes ys from. subst (From bytes ys) (sym e) (record { opening = from.opening; reached = on_filing from.reached f }))
+    onward s after (λ ys. ys) (λ bytes ys from. subst (From bytes ys) (sym e) (record { opening = from.opening; reached = by_filing from.reached f }))
 
 pub onward_worked : (s after : State) (n : ℕ) → after ≡ state_worked n s → Onward s after (logged (acts s.parcels) (asked (acts s.parcels) s.desk n) n)
 onward_worked s after n e =
     let log = logged (acts s.parcels) (asked (acts s.parcels) s.desk n) n in
-    onward s after log (λ bytes ys from. subst (From bytes (log ys)) (sym e) (record { opening = from.opening; reached = on_work from.reached n }))
+    onward s after log (λ bytes ys from. subst (From bytes (log ys)) (sym e) (record { opening = from.opening; reached = by_work from.reached n }))
 
 pub not_filed : (im : Image) (bs : List ℕ) (x : Result Filing Refusal) → x ≡ taking_in im bs → IfErr x (λ e. Files (Err e) bs im im)
 not_filed im bs (Ok f) is = tt
@@ -92,8 +95,8 @@ begun P bytes im after is pages ok =
     let state : state_in after ≡ record { parcels = P; desk = opened (opened_page P bytes) } =
     ap state_in is ∙ (λ i. record { parcels = P; desk = record { register = pages i; filed = []; marks = [] } })
     in
-    let reached : From bytes [] (state_in after) = subst (From bytes []) (sym state) (record { opening = ok; reached = at_opening }) in
-    record { state = state; reached = reached; promised = promised bytes [] (state_in after) reached }
+    let from : From bytes [] (state_in after) = subst (From bytes []) (sym state) (record { opening = ok; reached = by_opening }) in
+    record { state = state; reached = from; promised = promised bytes [] (state_in after) from }
 
 -- what is refused changes nothing
 module _ (im : Image) (n : ℕ) (e : Refusal) where

@@ -1,6 +1,6 @@
 -- What is in the way of a filing, read from memory. Assumes nothing.
 use Rattle.std.proofs.Common.{◌≡◌, ℕ, suc, ◌+◌, ◌-◌, ◌<◌, ◌≤◌, Bool, true, false, cond, not, ◌&&◌, get_or, is_some, Some, None, Option, sym, refl, ap, ◌∙◌, add-one, arith}
-use Rattle.std.proofs.lemmas.Bool.{true≢false}
+use Rattle.std.proofs.lemmas.Bool.{cond-true, cond-false}
 use Rattle.std.specs.List.{slice_get}
 use Rattle.orders.specs.Desk.{Answer, Desk, asked, in_way, is_open, is_ready, open_at, ready_from, shares_with, way_from}
 use Rattle.orders.specs.Steps.{Acts}
@@ -13,6 +13,11 @@ use Rattle.work.specs.Marks.{mark_of}
 use Rattle.work.specs.State.{Image, desk_in}
 use Rattle.work.proofs.Listing.{filed_nth, marks_nth}
 
+-- an open one that shares a page is in the way
+module _ {Page Act Result : Type 0} (w : Acts Page Act Result) (d : Desk Page Act Result) (n : ℕ) (a : Act) (i : ℕ) where
+  pub in_way_is : (t : Bool) (o : Option Act) → t ≡ open_at d i → o ≡ slice_get d.filed i → (t && shares_with w n a i o) ≡ in_way w d n a i
+  in_way_is t o still e = λ j. still j && shares_with w n a i (e j)
+
 -- the search, one number on
 module _ {Page Act Result : Type 0} (w : Acts Page Act Result) (d : Desk Page Act Result) (n : ℕ) (a : Act) where
   way_step : (i : ℕ) → i < n → way_from w d n a i (n - i) ≡ cond (in_way w d n a i) (Some i) (way_from w d n a (i + 1) (n - (i + 1)))
@@ -21,19 +26,15 @@ module _ {Page Act Result : Type 0} (w : Acts Page Act Result) (d : Desk Page Ac
       let left : n - i ≡ suc (n - (i + 1)) = omega arith in
       rw (left, add-one i)
 
+  pub way_here : (i : ℕ) → i < n → in_way w d n a i ≡ true → way_from w d n a i (n - i) ≡ Some i
+  way_here i h e = way_step i h ∙ cond-true _ _ _ e
+
+  pub way_on : (i : ℕ) → i < n → in_way w d n a i ≡ false → way_from w d n a i (n - i) ≡ way_from w d n a (i + 1) (n - (i + 1))
+  way_on i h e = way_step i h ∙ cond-false _ _ _ e
+
   pub way_end : (i : ℕ) → n ≤ i → way_from w d n a i (n - i) ≡ None
   unfolding way_from
   way_end i h = let none : n - i ≡ 0 = omega arith in rw none
-
-  -- past what is done
-  pub way_past : (i : ℕ) → i < n → open_at d i ≡ false → way_from w d n a i (n - i) ≡ cond false (Some i) (way_from w d n a (i + 1) (n - (i + 1)))
-  way_past i h shut = way_step i h ∙ ap (λ t. cond (t && shares_with w n a i (slice_get d.filed i)) (Some i) (way_from w d n a (i + 1) (n - (i + 1)))) shut
-
-  -- at what is open, it ends where they share a page
-  pub way_look :
-      (i : ℕ) → i < n → (o : Option Act) → open_at d i ≡ true → o ≡ slice_get d.filed i →
-      way_from w d n a i (n - i) ≡ cond (shares_with w n a i o) (Some i) (way_from w d n a (i + 1) (n - (i + 1)))
-  way_look i h o still e = way_step i h ∙ (λ t. cond (still t && shares_with w n a i (sym e t)) (Some i) (way_from w d n a (i + 1) (n - (i + 1))))
 
 -- the search for what may be worked, one number on
 module _ {Page Act Result : Type 0} (w : Acts Page Act Result) (d : Desk Page Act Result) (m : ℕ) where

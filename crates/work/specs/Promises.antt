@@ -1,7 +1,7 @@
 -- What is promised of every registry from an opening on, and what each call says of it. Assumes nothing.
 use Rattle.std.specs.Prelude.{◌≡◌, ℕ, ◌≤◌, true, false, List, [], length, IfOk, Some, Ok, Result}
 use Rattle.std.specs.List.{slice_get}
-use Rattle.orders.specs.Desk.{FirstOpen, Reached, accepted, asked, first_open, logged, open_at, opened, ready_from, touched_by, worked_all}
+use Rattle.orders.specs.Desk.{FirstOpen, ReachedBy, accepted, asked, first_open, logged, open_at, opened, ready_from, touched_by, worked_all}
 use Rattle.orders.specs.Laws.{AsFiled, Goes, InOrder}
 use Rattle.orders.specs.Orders.{Numbered, numbers_of}
 use Rattle.entries.specs.Order.{all_below, distinct}
@@ -19,7 +19,7 @@ use Rattle.work.specs.State.{Image, State, desk_in, state_in}
 -- by any interleaving of filing and asking, whatever was asked for, since it was opened with these pages; ys were worked, in this order
 pub record From (bytes : List ℕ) (ys : List (Numbered Filing)) (s : State) : Type 0 where
   pub opening : checked s.parcels bytes ≡ Ok tt
-  pub reached : Reached (acts s.parcels) (opened_page s.parcels bytes) ys s.desk
+  pub reached : ReachedBy (acts s.parcels) (opened_page s.parcels bytes) ys s.desk
 
 pub record Promised (bytes : List ℕ) (ys : List (Numbered Filing)) (s : State) : Type 0 where
   -- each page is what the order of filing makes of it before the first open filing that touches it, and each outcome that of the order of filing
@@ -53,13 +53,6 @@ pub record Onward (before after : State) (log : List (Numbered Filing) → List 
   pub promised : (bytes : List ℕ) (ys : List (Numbered Filing)) → From bytes ys before → Promised bytes (log ys) after
 
 -- THE CALLS
-
-pub record Opens (r : Result (Unit {0}) Refusal) (P : ℕ) (bytes : List ℕ) (before after : Image) : Type 0 where
-  pub answer : r ≡ opening P bytes before.pages
-  pub image : after ≡ image_opened r P bytes before
-  pub state : state_in after ≡ state_opened r P bytes (state_in before)
-  pub reached : IfOk r (λ _. From bytes [] (state_in after))
-  pub promised : IfOk r (λ _. Promised bytes [] (state_in after))
 
 -- the pages of an opening are there, and from here on it is open
 pub record Begun (P : ℕ) (bytes : List ℕ) (after : Image) : Type 0 where

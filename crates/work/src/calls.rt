@@ -1,8 +1,12 @@
 // The registry's calls: it is opened, takes filings in, and works them by the rule.
-ghost use Rattle.std.specs.Prelude.{◌≡◌};
-ghost use Rattle.work.specs.Calls.{image_over};
-ghost use Rattle.work.specs.Promises.{Files, Opens, Works};
-ghost use Rattle.work.specs.State.{image_of};
+ghost use Rattle.std.specs.Prelude.{◌≡◌, [], IfOk};
+ghost use Rattle.orders.specs.Desk.{asked, logged};
+ghost use Rattle.pages.specs.Opening.{opening};
+ghost use Rattle.pages.specs.Register.{page_at};
+ghost use Rattle.steps.specs.Acting.{acts};
+ghost use Rattle.work.specs.Calls.{answered, image_filed, image_opened, image_over, image_worked, number_given, state_filed, state_opened, state_worked, taking_in};
+ghost use Rattle.work.specs.Promises.{From, Onward, Promised};
+ghost use Rattle.work.specs.State.{desk_in, image_of, state_of};
 
 use crate::asking::Answer;
 use crate::memory::Memory;
@@ -30,7 +34,11 @@ impl<'a> Registry<'a> {
 impl Registry<'_> {
     // Opens the register with its parcels; what was filed before is forgotten.
     pub fn open(&mut self, parcels: u16, pages: &[u8]) -> Result<(), Refusal>
-        ensures { Opens result parcels pages.now (image_of self.old) (image_of self.new) }
+        ensures answer { result ≡ opening parcels pages.now self.old.memory.pages.now }
+        ensures image { image_of self.new ≡ image_opened result parcels pages.now (image_of self.old) }
+        ensures state { state_of self.new ≡ state_opened result parcels pages.now (state_of self.old) }
+        ensures reached { IfOk result (λ _. From pages.now [] (state_of self.new)) }
+        ensures promised { IfOk result (λ _. Promised pages.now [] (state_of self.new)) }
     {
         self.memory.open(parcels, pages)?;
         self.begin(parcels);
@@ -39,7 +47,10 @@ impl Registry<'_> {
 
     // Takes a filing in under the next number, open, or refuses it.
     pub fn file(&mut self, bytes: &[u8]) -> Result<u16, Refusal>
-        ensures { Files result bytes.now (image_of self.old) (image_of self.new) }
+        ensures answer { result ≡ number_given (image_of self.old) (taking_in (image_of self.old) bytes.now) }
+        ensures image { image_of self.new ≡ image_filed (taking_in (image_of self.old) bytes.now) bytes.now (image_of self.old) }
+        ensures state { state_of self.new ≡ state_filed (taking_in (image_of self.old) bytes.now) (state_of self.old) }
+        ensures onward { Onward (state_of self.old) (state_of self.new) (λ ys. ys) }
     {
         let filing = self.admit_next(bytes)?;
         Ok(self.take(filing, bytes))
@@ -47,7 +58,10 @@ impl Registry<'_> {
 
     // Works a filing, if it is there, still open, and no earlier open one shares a page with it.
     pub fn work(&mut self, number: u16) -> Result<Outcome, Refusal>
-        ensures { Works result number (image_of self.old) (image_of self.new) }
+        ensures answer { result ≡ answered self.old.parcels number (page_at self.old.memory.pages.now) (asked (acts self.old.parcels) (desk_in (image_of self.old)) number) }
+        ensures image { image_of self.new ≡ image_worked number (asked (acts self.old.parcels) (desk_in (image_of self.old)) number) (image_of self.old) }
+        ensures state { state_of self.new ≡ state_worked number (state_of self.old) }
+        ensures onward { Onward (state_of self.old) (state_of self.new) (logged (acts self.old.parcels) (asked (acts self.old.parcels) (desk_in (image_of self.old)) number) number) }
     {
         match self.ask(number) {
             Answer::Absent => self.refuse(number, Refusal::NotThere),

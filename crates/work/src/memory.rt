@@ -1,5 +1,5 @@
 // The memory that a registry is lent: pages, filings and marks, read and written together.
-ghost use Rattle.std.specs.Prelude.{◌≡◌, ℕ, ◌+◌, ◌*◌, ◌<◌, ◌≤◌, true, length, is_some, Ok, OnOk, slice_set};
+ghost use Rattle.std.specs.Prelude.{◌≡◌, ℕ, ◌+◌, ◌*◌, ◌<◌, ◌≤◌, true, length, is_some, Ok, OnOk, slice_index, slice_set};
 ghost use Rattle.std.specs.List.{slice_get};
 ghost use Rattle.orders.specs.Desk.{is_open};
 ghost use Rattle.pages.specs.Register.{page_at, room};
@@ -8,7 +8,7 @@ ghost use Rattle.entering.specs.Entering.{act, entered, outcome, words_after};
 ghost use Rattle.filings.specs.Keeping.{kept_at, kept_in, put_kept, put_slot, slot_of, slots_in};
 ghost use Rattle.pages.specs.Opening.{checked, opening, register_opened, words_opened};
 ghost use Rattle.work.specs.Listed.{filed_in, marks_in};
-ghost use Rattle.work.specs.Marks.{mark_byte};
+ghost use Rattle.work.specs.Marks.{mark_byte, mark_of};
 
 use crate::mark::{mark_byte, mark_of};
 use entering::enter::enter;
@@ -26,15 +26,28 @@ pub struct Memory<'a> {
 }
 
 impl Memory<'_> {
+    pub(crate) fn filing(&self, number: u16) -> Option<Filing>
+        ensures { result ≡ kept_at self.now.filings.now number }
+    {
+        filing_at(self.filings, number as usize)
+    }
+
+    pub(crate) fn mark(&self, number: u16) -> Option<Outcome>
+        requires { number < length self.now.marks.now }
+        ensures { result ≡ mark_of (slice_index self.now.marks.now number) }
+    {
+        mark_of(self.marks[number as usize])
+    }
+
     // The filing of a number, of so many that came in.
-    pub(crate) fn filing(&self, number: u16, filed: u16) -> Option<Filing>
+    pub(crate) fn filing_among(&self, number: u16, filed: u16) -> Option<Filing>
         requires { (n : ℕ) → n < filed → is_some (kept_at self.now.filings.now n) ≡ true }
         ensures { result ≡ slice_get (filed_in (kept_at self.now.filings.now) filed) number }
     {
         if number >= filed {
             return None;
         }
-        filing_at(self.filings, number as usize)
+        self.filing(number)
     }
 
     // Whether it has no mark yet.
@@ -45,7 +58,7 @@ impl Memory<'_> {
         if number >= filed {
             return false;
         }
-        mark_of(self.marks[number as usize]).is_none()
+        self.mark(number).is_none()
     }
 
     // Enters a filing on the pages; what came of it is not marked yet.
@@ -88,9 +101,9 @@ impl Memory<'_> {
         ensures register { page_at self.new.pages.now ≡ register_opened result parcels pages.now (page_at self.old.pages.now) }
         ensures filings { self.new.filings.now ≡ self.old.filings.now }
         ensures marks { self.new.marks.now ≡ self.old.marks.now }
-        ensures enough { OnOk result (parcels ≤ room self.new.pages.now) }
+        ensures room { OnOk result (parcels ≤ room self.new.pages.now) }
         ensures checked { OnOk result (checked parcels pages.now ≡ Ok tt) }
-        ensures room { room self.new.pages.now ≡ room self.old.pages.now }
+        ensures same_room { room self.new.pages.now ≡ room self.old.pages.now }
     {
         open_pages(self.pages, parcels, pages)
     }

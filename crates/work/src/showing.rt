@@ -15,7 +15,7 @@ impl Registry<'_> {
     pub fn filing(&self, number: u16) -> Option<Filing>
         ensures { result ≡ slice_get (state_of self.now).desk.filed number }
     {
-        self.memory.filing(number, self.filed)
+        self.memory.filing_among(number, self.filed)
     }
 
     // Whether a filing came in under a number and is neither entered nor rejected.

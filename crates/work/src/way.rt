@@ -1,6 +1,6 @@
 // What is in the way of a filing: an open one with a smaller number that shares a page with it.
-ghost use Rattle.std.specs.Prelude.{◌≡◌, ◌+◌, ◌-◌, ◌<◌, ◌≤◌, if◌then◌else◌, Some, MatchOption};
-ghost use Rattle.orders.specs.Desk.{absent, asked, way_from};
+ghost use Rattle.std.specs.Prelude.{◌≡◌, ◌<◌, ◌≤◌, MatchOption};
+ghost use Rattle.orders.specs.Desk.{absent, asked, in_way, way_from};
 ghost use Rattle.steps.specs.Acting.{acts};
 ghost use Rattle.work.specs.Asking.{CameIn};
 ghost use Rattle.work.specs.State.{desk_in, image_of};
@@ -17,10 +17,10 @@ impl Registry<'_> {
         self.filing(number)
     }
 
-    // Whether the filing `earlier` is open and shares a page with this one; if not, the search goes on behind it.
+    // Whether the filing `earlier` is open and shares a page with this one.
     fn blocks(&self, earlier: u16, number: u16, filing: Filing) -> bool
-        requires { (earlier < number) × (number ≤ self.now.filed) }
-        ensures { way_from (acts self.now.parcels) (desk_in (image_of self.now)) number filing earlier (number - earlier) ≡ (if result then Some earlier else way_from (acts self.now.parcels) (desk_in (image_of self.now)) number filing (earlier + 1) (number - (earlier + 1))) }
+        requires { earlier < self.now.filed }
+        ensures { result ≡ in_way (acts self.now.parcels) (desk_in (image_of self.now)) number filing earlier }
     {
         if !self.is_open(earlier) {
             return false;

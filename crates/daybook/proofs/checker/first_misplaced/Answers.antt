@@ -11,18 +11,20 @@ pub returns-in-Err : goal.returns-in-Err
 returns-in-Err c =
     let ns = c.args.order.now in
     let i = c.loop-place.place in
-    on_refused ns (image_of c.args.registry.now) (get_or ns i 0) (drop (suc i) ns) i (image_of c.loop-place.registry) _
+    let e = c.in-Err.ensures in
+    on_refused ns (image_of c.args.registry.now) (get_or ns i 0) (drop (suc i) ns) i (image_of c.loop-place.registry) (image_of c.work.new.self)
     (subst (λ l. SoFar l ns i (image_of c.args.registry.now) (image_of c.loop-place.registry)) (drop-cons ns i 0 c.loop-place-test.true) c.loop-place.invariant)
-    c.in-Err.refusal c.in-Err.ensures
+    c.in-Err.refusal (record { answer = e.answer; image = e.image; state = e.state; onward = e.onward })
 
 pub loop-place-preserved : goal.loop-place-preserved
 loop-place-preserved c =
     let ns = c.args.order.now in
     let i = c.loop-place.place in
+    let e = c.in_default.ensures in
     let next =
     on_done ns (image_of c.args.registry.now) (get_or ns i 0) (drop (suc i) ns) i (image_of c.loop-place.registry) (image_of c.work.new.self)
     (subst (λ l. SoFar l ns i (image_of c.args.registry.now) (image_of c.loop-place.registry)) (drop-cons ns i 0 c.loop-place-test.true) c.loop-place.invariant)
-    c.in_default.field-0 c.in_default.ensures
+    c.in_default.field-0 (record { answer = e.answer; image = e.image; state = e.state; onward = e.onward })
     in
     subst (λ (k : ℕ). SoFar (drop k ns) ns k (image_of c.args.registry.now) (image_of c.work.new.self)) (sym (add-one i)) next
 

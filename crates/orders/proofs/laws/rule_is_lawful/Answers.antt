@@ -1,4 +1,4 @@
-use Rattle.orders.proofs.Accepted.{goes_is_accepted, never_stuck}
+use Rattle.orders.proofs.Accepted.{first_is_ready, goes_is_accepted, never_stuck}
 use Rattle.orders.proofs.Rule.{accepted_goes, accepted_is_done, accepted_is_lawful, lawful_is_accepted}
 use Rattle.orders.proofs.laws.rule_is_lawful.Goals as goal
 
@@ -10,4 +10,5 @@ returns g c = record {
   only = λ w l. accepted_goes w l;
   done = λ w l. accepted_is_done w l;
   stuck = λ w l. never_stuck w l;
+  first = λ w l. first_is_ready w l;
 }

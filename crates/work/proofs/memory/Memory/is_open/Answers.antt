@@ -11,4 +11,4 @@ returns-then-number-filed c =
     ap is_open (sym (nth_none (marks_in c.args.self.now.marks.now c.args.filed) c.args.number (omega arith)))
 
 pub returns : goal.returns
-returns c = open_is c.args.self.now.marks.now c.args.filed c.args.number (omega arith) c.mark_of.result c.is_none.result c.mark_of.ensures c.is_none.ensures
+returns c = open_is c.args.self.now.marks.now c.args.filed c.args.number (omega arith) c.mark.result c.is_none.result c.mark.ensures c.is_none.ensures

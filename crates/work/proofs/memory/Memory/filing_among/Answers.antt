@@ -3,7 +3,7 @@ use Rattle.orders.proofs.Places.{nth_none}
 use Rattle.filings.specs.Keeping.{kept_at}
 use Rattle.work.specs.Listed.{filed_in}
 use Rattle.work.proofs.Listing.{filed_length, filed_nth}
-use Rattle.work.proofs.memory.Memory.filing.Goals as goal
+use Rattle.work.proofs.memory.Memory.filing_among.Goals as goal
 
 pub returns-then-number-filed : goal.returns-then-number-filed
 returns-then-number-filed c =
@@ -11,4 +11,4 @@ returns-then-number-filed c =
     sym (nth_none (filed_in (kept_at c.args.self.now.filings.now) c.args.filed) c.args.number (omega arith))
 
 pub returns : goal.returns
-returns c = c.filing_at.ensures ∙ sym (filed_nth (kept_at c.args.self.now.filings.now) c.args.filed c.args.number c.requires (omega arith))
+returns c = c.filing.ensures ∙ sym (filed_nth (kept_at c.args.self.now.filings.now) c.args.filed c.args.number c.requires (omega arith))
