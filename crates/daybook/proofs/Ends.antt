@@ -1,9 +1,8 @@
 -- Where the filings of a file end, one filing at a time. Assumes nothing.
-use Rattle.std.proofs.Common.{◌≡◌, ℕ, zero, suc, ◌+◌, ◌-◌, ◌<◌, ◌≤◌, Bool, true, false, cond, eqb, leb, List, length, Ok, Err, Result, sym, refl, ◌∙◌, arith}
-use Rattle.std.proofs.lemmas.Bool.{cond-true, cond-false, le-leb, lt-leb, leb-false, eqb-false, eq-eqb, ne_eqb}
+use Rattle.std.proofs.Common.{◌≡◌, ℕ, zero, suc, ◌+◌, ◌-◌, ◌<◌, ◌≤◌, Bool, true, false, cond, eqb, leb, List, length, Ok, Err, sym, refl, ◌∙◌, arith}
+use Rattle.std.proofs.lemmas.Bool.{cond-true, cond-false, le-leb, lt-leb, leb-false, eq-eqb, ne_eqb}
 use Rattle.pages.specs.Bytes.{byte}
-use Rattle.daybook.specs.declared.error.Malformed.{Malformed}
-use Rattle.daybook.specs.declared.error.Missing.TheVariants.{End, Filing}
+use Rattle.daybook.specs.declared.error.Missing.TheVariants.{Filing}
 use Rattle.daybook.specs.File.{end_from, malformed}
 
 -- three tests in a row, of which the last way differs

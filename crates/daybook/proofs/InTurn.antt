@@ -1,13 +1,11 @@
 -- Working a list in turn: what is kept at each number, and what follows at the first that is refused and at the end. Assumes nothing.
-use Rattle.std.proofs.Common.{◌≡◌, ℕ, zero, suc, ◌+◌, ◌<◌, ◌≤◌, Bool, true, false, cond, not, ◌&&◌, List, [], ◌∷◌, length, is_ok, Some, None, Ok, Err, Option, Result, sym, refl, ap, ◌∙◌, subst, ⊎_elim, arith}
+use Rattle.std.proofs.Common.{◌≡◌, ℕ, zero, suc, ◌+◌, true, false, not, ◌&&◌, List, [], ◌∷◌, length, is_ok, Some, None, Ok, Err, Option, Result, sym, refl, ap, ◌∙◌, ⊎_elim, arith}
 use Rattle.std.proofs.lemmas.Bool.{and_parts, cases_Bool, cond-true, cond-false, true≢false}
 use Rattle.std.specs.List.{slice_get}
-use Rattle.orders.proofs.Kept.{Kept}
 use Rattle.orders.proofs.Places.{nth_some, nth_there}
 use Rattle.orders.proofs.Reached.{kept_reached, reached}
 use Rattle.orders.proofs.Rule.{accepted_is_done}
-use Rattle.orders.specs.Desk.{Answer, Desk, Reached, absent, finished, waits, ready, accepted, asked, first_open, if_ready, is_open, is_ready, logged, by_work, open_at, open_from, touched_by, turn, work, worked_all}
-use Rattle.orders.specs.Laws.{AsFiled}
+use Rattle.orders.specs.Desk.{Answer, Desk, absent, finished, waits, ready, accepted, asked, if_ready, is_open, is_ready, by_work, open_at, open_from, touched_by, turn, work, worked_all}
 use Rattle.orders.specs.Orders.{Numbered, among}
 use Rattle.orders.specs.Steps.{Acts}
 use Rattle.pages.specs.Opening.{opened_page}

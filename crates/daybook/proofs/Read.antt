@@ -1,13 +1,12 @@
 -- Bytes that are read are the file that says what was read. Assumes nothing.
-use Rattle.std.proofs.Common.{◌≡◌, ℕ, zero, suc, ◌+◌, ◌-◌, ◌*◌, ◌/◌, ◌%◌, ◌<◌, ◌≤◌, Bool, true, false, cond, eqb, ltb, leb, List, [], ◌∷◌, ◌++◌, length, get_or, take, drop, Ok, Err, Result, sym, refl, ap, ◌∙◌, subst, ⊎_elim, append_assoc, arith, length-append, length-drop, length-take}
+use Rattle.std.proofs.Common.{◌≡◌, ℕ, zero, suc, ◌+◌, ◌-◌, ◌*◌, ◌/◌, ◌%◌, ◌<◌, ◌≤◌, Bool, true, false, cond, eqb, ltb, leb, List, [], ◌∷◌, ◌++◌, length, take, drop, Ok, Err, Result, sym, refl, ap, ◌∙◌, subst, arith, length-drop, length-take}
 use Rattle.std.specs.List.{flat_map, AllByRecursion as All}
 use Rattle.std.proofs.ByRecursion.{All-drop}
 use Rattle.std.proofs.lemmas.List.{take-append-drop, drop-drop, drop_more, length-take-le, drop-take, take-take}
-use Rattle.std.proofs.lemmas.Bool.{leb-true, leb-false, eqb-true, eqb-false, ltb-false}
+use Rattle.std.proofs.lemmas.Bool.{leb-false, eqb-true, ltb-false}
 use Rattle.pages.specs.Bytes.{byte, two}
 use Rattle.pages.specs.Opening.{checked}
 use Rattle.pages.specs.declared.refusal.Refusal.{Refusal}
-use Rattle.pages.proofs.Openings.{checked_length}
 use Rattle.daybook.specs.declared.error.Malformed.{Malformed}
 use Rattle.daybook.specs.declared.error.FileError.{FileError}
 use Rattle.daybook.specs.File.{Parts, after_length, two_bytes, written, cut, filings_in, numbers_in, end_from, pages_in, filings_start, reading, parts_to, read_to, unless_refused}

@@ -1,13 +1,12 @@
 -- What `DayBook::read` found, put together. Assumes nothing.
-use Rattle.std.proofs.Common.{◌≡◌, ℕ, ◌+◌, ◌-◌, ◌*◌, ◌%◌, ◌<◌, ◌≤◌, min, cond, eqb, ltb, List, length, take, drop, Ok, Err, Result, sym, refl, ap, ◌∙◌, subst, ⊎_elim, arith, length-drop}
+use Rattle.std.proofs.Common.{◌≡◌, ℕ, ◌+◌, ◌-◌, ◌*◌, ◌%◌, ◌<◌, ◌≤◌, min, eqb, ltb, List, length, take, drop, Ok, Err, sym, ap, ◌∙◌, ⊎_elim, arith, length-drop}
 use Rattle.std.proofs.lemmas.List.{take_all, take_rest}
 use Rattle.std.proofs.lemmas.Bool.{cases_lt, cond-true, cond-false, le-ltb, eq-eqb}
 use Rattle.pages.specs.Bytes.{two}
 use Rattle.pages.specs.Opening.{checked}
 use Rattle.pages.specs.declared.refusal.Refusal.{Refusal}
-use Rattle.daybook.specs.declared.error.FileError.{FileError}
 use Rattle.daybook.specs.declared.error.FileError.TheVariants.{Refused}
-use Rattle.daybook.specs.File.{Parts, end_from, filings_in, numbers_in, pages_in, filings_start, reading, parts_to, read_to, unless_refused}
+use Rattle.daybook.specs.File.{end_from, filings_in, numbers_in, pages_in, filings_start, reading, parts_to, read_to, unless_refused}
 
 -- as many bytes of pages as there are: the code stops at the end of the file
 pages_found : (bs : List ℕ) (k : ℕ) → 2 ≤ length bs → take (min (2 + k) (length bs) - 2) (drop 2 bs) ≡ take k (drop 2 bs)

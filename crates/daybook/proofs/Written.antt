@@ -1,11 +1,11 @@
 -- A file that is written is read as what it says. Assumes nothing.
-use Rattle.std.proofs.Common.{◌≡◌, ℕ, zero, suc, ◌+◌, ◌-◌, ◌*◌, ◌/◌, ◌%◌, ◌<◌, ◌≤◌, List, [], ◌∷◌, ◌++◌, length, take, drop, Ok, sym, refl, ap, ◌∙◌, subst, append_assoc, add-zero, arith, length-append}
+use Rattle.std.proofs.Common.{◌≡◌, ℕ, zero, suc, ◌+◌, ◌-◌, ◌*◌, ◌/◌, ◌%◌, ◌<◌, ◌≤◌, List, [], ◌∷◌, ◌++◌, length, take, drop, Ok, sym, refl, ap, ◌∙◌, append_assoc, add-zero, arith, length-append}
 use Rattle.std.specs.List.{flat_map, AllByRecursion as All}
 use Rattle.std.proofs.lemmas.List.{get_or_at, take_at, drop_at}
 use Rattle.pages.specs.Bytes.{byte, two}
 use Rattle.pages.specs.Opening.{checked}
 use Rattle.pages.proofs.Openings.{checked_length}
-use Rattle.daybook.specs.File.{Parts, after_length, two_bytes, written, cut, filings_in, numbers_in, end_from, pages_in, filings_start, reading, parts_to}
+use Rattle.daybook.specs.File.{after_length, two_bytes, written, cut, filings_in, numbers_in, end_from, pages_in, filings_start}
 use Rattle.daybook.specs.Laws.{ReadsWhatIsWritten}
 use Rattle.daybook.proofs.Ends.{at_end, passed}
 use Rattle.daybook.proofs.Reading.{read_whole}

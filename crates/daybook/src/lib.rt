@@ -1,4 +1,6 @@
 // The day book: the file that the programs read, taken apart.
+#![tactic(auto)]
+
 pub mod checker;
 pub mod error;
 pub mod file;

@@ -1,6 +1,6 @@
 -- What each kind of filing makes of a page that it names, or why it is rejected: the checks stand in the order of the reasons.
 -- Assumes nothing.
-use Rattle.std.specs.Prelude.{ℕ, Bool, cond, ◌&&◌, List, [], ◌∷◌, ◌++◌, length, Ok, Err, Result, ◌==◌, nat_lt}
+use Rattle.std.specs.Prelude.{ℕ, cond, ◌&&◌, [], ◌∷◌, ◌++◌, length, Ok, Err, Result, ◌==◌, nat_lt}
 use Rattle.entries.specs.Order.{alike}
 use Rattle.entries.specs.Sheet.{Sheet}
 use Rattle.entries.specs.Rank.{charge, filled, has, has_reserved, owned_sheet, postponed, released, with_entries}

@@ -1,5 +1,5 @@
 -- Entering filing n in a register that was opened with P parcels: which pages it writes, or why it is rejected. Assumes nothing.
-use Rattle.std.specs.Prelude.{◌≡◌, ℕ, ◌+◌, ◌-◌, ◌*◌, ◌^◌, min, Bool, cond, List, [], ◌∷◌, ◌++◌, Ok, Err, Result, nat_lt}
+use Rattle.std.specs.Prelude.{◌≡◌, ℕ, ◌+◌, ◌-◌, ◌^◌, min, Bool, cond, List, [], ◌∷◌, Ok, Err, Result, nat_lt}
 use Rattle.std.specs.Result.{result_map_both}
 use Rattle.entries.specs.Sheet.{Sheet}
 use Rattle.entries.specs.Rank.{closed_sheet, made_sheet}

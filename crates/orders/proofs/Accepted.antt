@@ -1,16 +1,15 @@
 -- What is ready is worked, and so is every order that goes by the rule. Assumes nothing.
-use Rattle.std.proofs.Common.{◌≡◌, ℕ, zero, suc, ◌+◌, ◌-◌, ◌<◌, ◌≤◌, Bool, true, false, cond, ◌&&◌, ◌≢◌, ◌⊎◌, List, [], ◌∷◌, length, replicate, Some, None, Option, sym, refl, ap, ◌∙◌, subst, inl, inr, ⊎_elim, arith}
+use Rattle.std.proofs.Common.{◌≡◌, ℕ, zero, suc, ◌+◌, ◌<◌, ◌≤◌, true, false, ◌&&◌, ◌≢◌, List, [], ◌∷◌, length, Some, None, Option, sym, refl, ap, ◌∙◌, ⊎_elim, arith}
 use Rattle.std.proofs.lemmas.Bool.{and_parts, cases_Bool, cases_eq, cases_lt, cond-true, cond-false, true≢false}
 use Rattle.std.specs.List.{slice_get}
-use Rattle.orders.specs.Desk.{Desk, Answer, absent, finished, waits, ready, is_open, open_at, all_open, shares_with, in_way, way_from, unless_waits, if_open, if_there, asked, worked_on, if_ready, work, is_ready, accepted, ready_from, FirstOpen}
+use Rattle.orders.specs.Desk.{Desk, ready, is_open, open_at, shares_with, in_way, way_from, unless_waits, if_open, if_there, asked, worked_on, if_ready, work, is_ready, accepted, ready_from, FirstOpen}
 use Rattle.orders.specs.Laws.{FirstIsReady, Goes, GoesIsAccepted, NeverStuck}
-use Rattle.orders.specs.Orders.{Numbered, Holds, here, there, Before, first, later, Single, none, one, Apart, Lawful, numbered, numbers_of}
+use Rattle.orders.specs.Orders.{Numbered, Holds, here, there, Before, first, later, Single, one, numbers_of}
 use Rattle.orders.specs.Steps.{Acts, Local}
 use Rattle.orders.proofs.Kept.{Ready}
 use Rattle.orders.proofs.Places.{nth_none, nth_set_same, nth_set_other, nth_there}
 use Rattle.orders.proofs.Reached.{kept_reached}
-use Rattle.orders.proofs.Exchanges.{exchanged_sym, holds_exchanged}
-use Rattle.orders.proofs.Lawfuls.{Inserted, at, past, taken_out, inserted_length, other_holds, before_second, lawful_is_exchanged}
+use Rattle.orders.proofs.Lawfuls.{before_second}
 
 module _ {Page Act Result : Type 0} (w : Acts Page Act Result) (local : Local w) where
   -- WHAT IS READY IS WORKED

@@ -1,12 +1,10 @@
 -- A desk is decided by what was filed and which of it is done. Assumes nothing.
-use Rattle.std.proofs.Common.{◌≡◌, ℕ, zero, suc, ◌<◌, ◌≤◌, true, false, cond, ◌&&◌, List, [], ◌∷◌, length, Some, None, Option, sym, refl, ap, ◌∙◌, subst, ⊎_elim, arith}
+use Rattle.std.proofs.Common.{◌≡◌, ℕ, zero, suc, ◌<◌, ◌≤◌, cond, ◌&&◌, List, [], ◌∷◌, length, Some, None, Option, sym, refl, ap, ◌∙◌, subst, ⊎_elim, arith}
 use Rattle.std.proofs.lemmas.Bool.{cases_lt, true≢false}
 use Rattle.std.specs.List.{slice_get}
-use Rattle.orders.specs.Desk.{Desk, Reached, first_open, is_open, open_at, open_from, touched_by, turn}
+use Rattle.orders.specs.Desk.{Desk, Reached, is_open, open_at, open_from, touched_by, turn}
 use Rattle.orders.specs.Laws.{OnlyDoneCounts}
-use Rattle.orders.specs.Orders.{Numbered}
 use Rattle.orders.specs.Steps.{Acts, Local}
-use Rattle.orders.proofs.Kept.{Kept}
 use Rattle.orders.proofs.Places.{nth_none, nth_there}
 use Rattle.orders.proofs.Reached.{kept_reached, order_of_work_unseen}
 

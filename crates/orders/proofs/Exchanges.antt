@@ -1,8 +1,8 @@
 -- Exchanging two acts that share no page changes no page and no outcome. Assumes nothing.
-use Rattle.std.proofs.Common.{◌≡◌, ℕ, Bool, true, false, cond, eqb, ◌≢◌, List, [], ◌∷◌, Some, None, Option, sym, refl, ap, ◌∙◌, ⊎_elim}
+use Rattle.std.proofs.Common.{◌≡◌, ℕ, Bool, true, false, cond, eqb, ◌≢◌, List, ◌∷◌, Some, Option, sym, refl, ap, ◌∙◌, ⊎_elim}
 use Rattle.std.proofs.lemmas.Bool.{cases_Bool, eqb-true, true≢false}
-use Rattle.orders.specs.Laws.{Agree, Exchange}
-use Rattle.orders.specs.Orders.{Numbered, Holds, here, there, Single, none, one, Apart, Exchanged, same, swap, skip, more, worked, outcome_in}
+use Rattle.orders.specs.Laws.{Exchange}
+use Rattle.orders.specs.Orders.{Numbered, Holds, here, there, Single, one, Apart, Exchanged, same, swap, skip, more, worked, outcome_in}
 use Rattle.orders.specs.Steps.{Acts, Local}
 
 module _ {Page Act Result : Type 0} (w : Acts Page Act Result) (local : Local w) where

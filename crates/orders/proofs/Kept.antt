@@ -1,11 +1,11 @@
 -- What filing and working keep: by pages, without ever reordering a list. Assumes nothing.
-use Rattle.std.proofs.Common.{◌≡◌, ℕ, zero, suc, ◌+◌, ◌<◌, ◌≤◌, Bool, true, false, cond, ◌&&◌, ◌⊎◌, List, [], ◌∷◌, ◌++◌, length, set, Some, None, Option, sym, refl, ap, ◌∙◌, subst, inl, inr, ⊎_elim, add-one, arith}
+use Rattle.std.proofs.Common.{◌≡◌, ℕ, zero, suc, ◌<◌, ◌≤◌, Bool, true, false, ◌&&◌, [], ◌∷◌, ◌++◌, length, Some, None, Option, sym, refl, ap, ◌∙◌, subst, ⊎_elim, arith}
 use Rattle.std.proofs.lemmas.List.{length-set, length_push}
-use Rattle.std.proofs.lemmas.Bool.{cases_Bool, cases_eq, cases_lt, cond-true, cond-false, true≢false}
+use Rattle.std.proofs.lemmas.Bool.{cases_Bool, cases_eq, cases_lt, true≢false}
 use Rattle.std.specs.List.{slice_get}
-use Rattle.orders.specs.Desk.{Desk, Answer, absent, finished, waits, ready, is_open, open_at, opened, filed_more, shares_with, in_way, way_from, unless_waits, if_open, if_there, asked, worked_on, if_ready, work, stepped, turn, touched_by}
+use Rattle.orders.specs.Desk.{Desk, is_open, open_at, opened, filed_more, shares_with, in_way, worked_on, stepped, turn, touched_by}
 use Rattle.orders.specs.Steps.{Acts, Local}
-use Rattle.orders.proofs.Places.{nth_front, nth_last, nth_none, nth_some, nth_there, nth_set_same, nth_set_other}
+use Rattle.orders.proofs.Places.{nth_front, nth_last, nth_none, nth_some, nth_set_same, nth_set_other}
 use Rattle.orders.proofs.Turns.{turn_untouched, turn_more}
 
 module _ {Page Act Result : Type 0} (w : Acts Page Act Result) (local : Local w) where

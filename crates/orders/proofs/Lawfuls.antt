@@ -1,8 +1,8 @@
 -- Lawful orders are just those that come about by exchanges of neighbours that share no page. Assumes nothing.
-use Rattle.std.proofs.Common.{◌≡◌, ℕ, suc, Bool, true, false, ◌≢◌, List, [], ◌∷◌, length, sym, refl, ap, ◌∙◌, subst, ⊎_elim, arith}
+use Rattle.std.proofs.Common.{◌≡◌, suc, ◌≢◌, List, [], ◌∷◌, length, sym, refl, ap, ◌∙◌, ⊎_elim, arith}
 use Rattle.std.proofs.lemmas.Bool.{cases_Bool, true≢false}
-use Rattle.orders.specs.Laws.{Agree, LawfulIsExchanged, ExchangedIsLawful, LawfulOrdersAgree}
-use Rattle.orders.specs.Orders.{Numbered, Holds, here, there, Before, first, later, Single, none, one, Apart, Exchanged, same, swap, skip, more, Lawful}
+use Rattle.orders.specs.Laws.{LawfulIsExchanged, ExchangedIsLawful, LawfulOrdersAgree}
+use Rattle.orders.specs.Orders.{Numbered, Holds, here, there, Before, first, later, Single, one, Apart, Exchanged, same, swap, skip, more, Lawful}
 use Rattle.orders.specs.Steps.{Acts, Local}
 use Rattle.orders.proofs.Exchanges.{exchange, exchanged_sym, holds_exchanged, single_exchanged}
 

@@ -1,8 +1,8 @@
 -- The main theorem: what is reached from an opening is as filed. Assumes nothing.
-use Rattle.std.proofs.Common.{◌≡◌, ℕ, zero, suc, ◌+◌, ◌<◌, ◌≤◌, Bool, true, false, cond, ◌&&◌, List, [], ◌∷◌, length, Some, None, Option, sym, refl, ap, ◌∙◌, subst, ⊎_elim, arith}
-use Rattle.std.proofs.lemmas.Bool.{and_left, and_right, and_parts, cases_Bool, cases_eq, cases_lt, cond-true, cond-false, true≢false}
+use Rattle.std.proofs.Common.{◌≡◌, ℕ, zero, suc, ◌+◌, ◌<◌, ◌≤◌, Bool, true, false, ◌&&◌, List, [], ◌∷◌, length, Some, None, Option, sym, refl, ap, ◌∙◌, subst, ⊎_elim, arith}
+use Rattle.std.proofs.lemmas.Bool.{and_parts, cases_Bool, cases_eq, cases_lt, cond-true, cond-false, true≢false}
 use Rattle.std.specs.List.{slice_get}
-use Rattle.orders.specs.Desk.{Desk, Answer, absent, finished, waits, ready, open_at, shares_with, in_way, way_from, unless_waits, if_open, if_there, asked, worked_on, if_ready, work, Reached, at_opening, on_filing, on_work, ReachedBy, by_opening, by_filing, by_work, turn, touched_by, open_from, first_open, is_open, worked_all}
+use Rattle.orders.specs.Desk.{Desk, Answer, absent, finished, waits, ready, open_at, in_way, way_from, unless_waits, if_open, if_there, asked, worked_on, if_ready, work, Reached, at_opening, on_filing, on_work, ReachedBy, by_opening, by_filing, by_work, touched_by, open_from, first_open, is_open, worked_all}
 use Rattle.orders.specs.Laws.{AsFiled, OrderOfWorkUnseen, UntouchedIsFinal}
 use Rattle.orders.specs.Orders.{Numbered}
 use Rattle.orders.specs.Steps.{Acts, Local}

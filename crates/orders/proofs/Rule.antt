@@ -1,10 +1,10 @@
 -- The rule lets through just the lawful orders: from lawful to accepted, and back. Assumes nothing.
-use Rattle.std.proofs.Common.{◌≡◌, ℕ, zero, suc, ◌+◌, ◌-◌, ◌<◌, ◌≤◌, Bool, true, false, not, ◌&&◌, ◌||◌, ◌≢◌, ◌⊎◌, List, [], ◌∷◌, length, replicate, Some, None, Option, sym, refl, ap, ◌∙◌, subst, inl, inr, ⊎_elim, zero-add, arith}
+use Rattle.std.proofs.Common.{◌≡◌, ℕ, zero, suc, ◌+◌, ◌-◌, ◌<◌, ◌≤◌, Bool, true, false, not, ◌&&◌, ◌||◌, ◌⊎◌, List, [], ◌∷◌, length, replicate, Some, None, Option, sym, refl, ap, ◌∙◌, subst, inl, inr, ⊎_elim, zero-add, arith}
 use Rattle.std.proofs.lemmas.Bool.{and_parts, cases_Bool, cases_eq, eq-eqb, ne_eqb, true≢false}
 use Rattle.std.specs.List.{slice_get}
 use Rattle.orders.specs.Desk.{Desk, Answer, absent, finished, waits, ready, is_open, open_at, all_open, shares_with, asked, worked_on, work, worked_all, is_ready, accepted}
 use Rattle.orders.specs.Laws.{Goes, AcceptedGoes, AcceptedIsDone, LawfulIsAccepted, AcceptedIsLawful}
-use Rattle.orders.specs.Orders.{Numbered, Holds, here, there, Before, among, first, later, Single, none, one, Apart, Lawful, numbered, numbers_of}
+use Rattle.orders.specs.Orders.{Numbered, Holds, here, there, Before, among, first, later, Single, none, one, Apart, numbered, numbers_of}
 use Rattle.orders.specs.Steps.{Acts, Local}
 use Rattle.orders.proofs.Accepted.{closes, goes_is_accepted, leaves, still_another, worked_if}
 use Rattle.orders.proofs.Exchanges.{exchanged_sym, holds_exchanged, single_exchanged}

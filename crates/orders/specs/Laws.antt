@@ -1,5 +1,5 @@
 -- What is promised of orders of work, for acts of whatever kinds. Assumes nothing.
-use Rattle.std.specs.Prelude.{◌≡◌, ℕ, ◌<◌, Bool, true, false, not, ◌&&◌, List, length, Some, None, Option}
+use Rattle.std.specs.Prelude.{◌≡◌, ℕ, ◌<◌, true, false, not, ◌&&◌, List, length, Some}
 use Rattle.std.specs.List.{slice_get}
 use Rattle.orders.specs.Desk.{Desk, FirstOpen, Reached, ReachedBy, turn, first_open, open_at, all_open, asked, ready, accepted, ready_from, touched_by, worked_all}
 use Rattle.orders.specs.Orders.{Numbered, Holds, Before, among, Single, Apart, Exchanged, Lawful, worked, outcome_in, numbered, numbers_of}

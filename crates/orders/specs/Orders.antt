@@ -1,5 +1,5 @@
 -- Orders of work, as lists of acts with their numbers. Assumes nothing.
-use Rattle.std.specs.Prelude.{◌≡◌, ℕ, suc, Bool, true, false, cond, ◌||◌, ◌≢◌, List, [], ◌∷◌, ◌++◌, length, Some, None, Option, ◌==◌}
+use Rattle.std.specs.Prelude.{◌≡◌, ℕ, suc, Bool, false, cond, ◌||◌, ◌≢◌, List, [], ◌∷◌, length, Some, None, Option, ◌==◌}
 use Rattle.orders.specs.Steps.{Acts}
 
 pub record Numbered (Act : Type 0) : Type 0 where

@@ -1,5 +1,5 @@
 -- A page that is written is read back, and every other page is as it was. Assumes nothing.
-use Rattle.std.proofs.Common.{◌≡◌, ℕ, zero, suc, ◌+◌, ◌-◌, ◌*◌, ◌/◌, ◌%◌, ◌^◌, ◌<◌, ◌≤◌, min, Bool, true, false, cond, eqb, ltb, ◌⊎◌, List, [], ◌∷◌, ◌++◌, length, take, drop, sym, refl, ap, ◌∙◌, subst, inl, inr, ⊎_elim, arith, length-append}
+use Rattle.std.proofs.Common.{◌≡◌, ℕ, zero, suc, ◌+◌, ◌-◌, ◌*◌, ◌/◌, ◌%◌, ◌^◌, ◌<◌, ◌≤◌, min, Bool, true, false, cond, eqb, ltb, ◌⊎◌, List, [], ◌∷◌, ◌++◌, length, take, drop, sym, refl, ap, ◌∙◌, inl, inr, ⊎_elim, arith, length-append}
 use borrow.Rule.Slice.PartMut.{put_mid}
 use Rattle.std.proofs.lemmas.List.{drop-drop}
 use Rattle.std.proofs.lemmas.Bool.{cases_Bool, cases_lt, cond-true, cond-false, eqb-true, eqb-false, ltb-true, le-ltb, lt-ltb, true≢false}
@@ -8,8 +8,8 @@ use Rattle.entries.specs.Sheet.{Sheet}
 use Rattle.entries.specs.declared.entry.Claim.{Claim}
 use Rattle.entries.specs.declared.entry.Claim.TheVariants.{Charge, Reserved}
 use Rattle.entries.specs.declared.entry.Entry.{Entry}
-use Rattle.pages.specs.Register.{Register, no_page, put, put_kept, room, words_at, page_at, put_page}
-use Rattle.pages.specs.Words.{flag, claim_words, entry_words, place_words, places, head_words, sheet_words, entry_in, entries_in, sheet_in, FitsEntry, FitsSheet}
+use Rattle.pages.specs.Register.{no_page, put, put_kept, room, words_at, page_at, put_page}
+use Rattle.pages.specs.Words.{flag, claim_words, entry_words, places, sheet_words, entry_in, entries_in, sheet_in, FitsEntry, FitsSheet}
 use Rattle.pages.proofs.Swapped.{swapped, swapped_here, swapped_below, swapped_above, swapped_size}
 use Rattle.pages.proofs.Writing.{place_size}
 

@@ -1,5 +1,5 @@
 -- The register in memory: a page for each number of a parcel, 132 words each. Assumes nothing.
-use Rattle.std.specs.Prelude.{ℕ, ◌+◌, ◌*◌, ◌/◌, Bool, true, false, cond, List, ◌++◌, length, take, drop, ◌==◌, nat_lt}
+use Rattle.std.specs.Prelude.{ℕ, ◌+◌, ◌*◌, ◌/◌, false, cond, List, ◌++◌, length, take, drop, ◌==◌, nat_lt}
 use Rattle.entries.specs.Sheet.{Sheet}
 use Rattle.entries.specs.Rank.{vacant_sheet}
 use Rattle.pages.specs.Words.{sheet_words, sheet_in}

@@ -1,9 +1,8 @@
 -- A page as words of memory, one field to a word: live, owner, area, number of entries, then 32 places of four words each.
 -- Assumes nothing.
-use Rattle.std.specs.Prelude.{ℕ, zero, suc, ◌+◌, ◌*◌, ◌/◌, ◌%◌, ◌^◌, ◌<◌, ◌≤◌, min, Bool, true, false, cond, List, [], ◌∷◌, ◌++◌, length, drop, Some, None, Option, ◌==◌, slice_index}
+use Rattle.std.specs.Prelude.{ℕ, zero, suc, ◌%◌, ◌^◌, ◌<◌, ◌≤◌, min, Bool, true, false, cond, List, [], ◌∷◌, ◌++◌, length, drop, Some, None, Option, ◌==◌, slice_index}
 use Rattle.std.specs.List.{slice_get}
 use Rattle.entries.specs.Sheet.{Sheet}
-use Rattle.entries.specs.Rank.{vacant_sheet}
 use Rattle.entries.specs.declared.entry.Claim.{Claim}
 use Rattle.entries.specs.declared.entry.Claim.TheVariants.{Charge, Reserved}
 use Rattle.entries.specs.declared.entry.Entry.{Entry}

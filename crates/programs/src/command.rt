@@ -27,7 +27,11 @@ fn is_flag(word: &str, flag: Option<&str>) -> bool {
 }
 
 // What a program's words ask for, in any order; its usage is the error where they make no sense.
-pub(crate) fn asked(rt: &HostRuntime, flag: Option<&str>, usage: &'static str) -> anyhow::Result<Command> {
+pub(crate) fn asked(
+    rt: &HostRuntime,
+    flag: Option<&str>,
+    usage: &'static str,
+) -> anyhow::Result<Command> {
     let mut flagged = false;
     let mut file = None;
     let mut words = env::args(rt)?;

@@ -1,4 +1,6 @@
 // What the programs do between reading and printing. Their mains only call these, so that each can be run on more than one input.
+#![tactic(auto)]
+
 mod command;
 pub mod extract;
 mod line;

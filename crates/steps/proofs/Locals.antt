@@ -1,6 +1,6 @@
 -- A filing changes only pages that it touches, and depends on those alone. Assumes nothing.
-use Rattle.std.proofs.Common.{◌≡◌, ℕ, ◌+◌, Bool, true, false, cond, ◌&&◌, eqb, ltb, List, [], ◌∷◌, ◌++◌, Ok, Err, Result, sym, refl, ap, ◌∙◌, subst, ⊎_elim}
-use Rattle.std.proofs.lemmas.Bool.{cases_Bool, cond-false, eq-eqb, eqb-true, ne_eqb, or_left, or_right, true≢false}
+use Rattle.std.proofs.Common.{◌≡◌, ℕ, ◌+◌, Bool, true, false, cond, ◌&&◌, eqb, ltb, List, [], ◌∷◌, ◌++◌, Ok, Err, Result, sym, refl, ap, ◌∙◌, ⊎_elim}
+use Rattle.std.proofs.lemmas.Bool.{cases_Bool, cond-false, eq-eqb, eqb-true, or_left, or_right, true≢false}
 use Rattle.std.specs.List.{AllByRecursion as All}
 use Rattle.entries.specs.Order.{alike}
 use Rattle.entries.specs.Sheet.{Sheet}
@@ -12,7 +12,7 @@ use Rattle.filings.proofs.Touches.{sharing}
 use Rattle.entering.specs.Acts.{if_live, if_owner, transferred, charged, kept_for, filled_by, released_by, postponed_by, divisible, mergeable}
 use Rattle.entering.specs.Entering.{Change, act, alone, subdivided, merged, puts, register_after, verdict, outcome, entered}
 use Rattle.entering.specs.declared.outcome.Rejection.{Rejection}
-use Rattle.steps.specs.Acting.{acts, FilingsAreLocal}
+use Rattle.steps.specs.Acting.{FilingsAreLocal}
 
 -- WHAT IT WRITES
 

@@ -1,13 +1,12 @@
 -- From an opening on, by induction over the order of filing. Assumes nothing.
-use Rattle.std.proofs.Common.{◌≡◌, ℕ, zero, suc, ◌+◌, ◌*◌, ◌<◌, ◌≤◌, List, length, Ok, sym, refl, ap, ◌∙◌, subst, arith}
+use Rattle.std.proofs.Common.{ℕ, zero, suc, ◌+◌, ◌*◌, ◌<◌, ◌≤◌, List, sym, refl, ◌∙◌, subst, arith}
 use Rattle.orders.proofs.Places.{nth_there}
 use Rattle.orders.specs.Desk.{stepped, turn}
-use Rattle.pages.specs.Opening.{checked, opened_page}
+use Rattle.pages.specs.Opening.{opened_page}
 use Rattle.pages.specs.Register.{Register}
 use Rattle.filings.specs.declared.filing.Filing.{Filing}
 use Rattle.entering.specs.Entering.{entered}
 use Rattle.steps.specs.Acting.{acts}
-use Rattle.steps.specs.Areas.{LiveBelow}
 use Rattle.steps.specs.Run.{Well, FromAnOpeningOn}
 use Rattle.steps.proofs.Areas.{land_kept}
 use Rattle.steps.proofs.Opening.{opens_well}

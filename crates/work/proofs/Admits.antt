@@ -1,9 +1,8 @@
 -- What is known of a filing that may come in, and what it makes of the state. Assumes nothing.
-use Rattle.std.proofs.Common.{◌≡◌, ℕ, suc, ◌+◌, ◌<◌, ◌≤◌, Bool, true, false, cond, eqb, ltb, leb, List, [], ◌∷◌, ◌++◌, length, get_or, set, is_some, IfOk, Some, None, Ok, Err, Option, Result, sym, refl, ap, ◌∙◌, ⊎_elim, add-one, arith}
+use Rattle.std.proofs.Common.{◌≡◌, ℕ, ◌+◌, ◌<◌, Bool, true, false, cond, eqb, ltb, leb, List, [], ◌∷◌, ◌++◌, length, set, is_some, IfOk, Some, None, Ok, Err, Option, Result, sym, refl, ap, ◌∙◌, ⊎_elim, add-one, arith}
 use Rattle.std.proofs.lemmas.List.{get_or-set_same, get_or-set_other}
 use Rattle.std.proofs.lemmas.Bool.{cases_eq, cond-true, cond-false, eq-eqb, leb-false, lt-ltb, ltb-false, ne_eqb}
 use Rattle.std.specs.Option.{option_to_list}
-use Rattle.orders.specs.Desk.{filed_more}
 use Rattle.pages.specs.Register.{page_at, room}
 use Rattle.pages.specs.declared.refusal.Refusal.{Refusal}
 use Rattle.filings.specs.Keeping.{Admitted, admitted, kept_at, kept_in, put, put_kept, slot_of, slots_in}
@@ -13,7 +12,7 @@ use Rattle.filings.specs.declared.filing.Filing.{Filing}
 use Rattle.work.specs.Calls.{Admits, lacks_room, state_filed, taking_in, then, wants_room}
 use Rattle.work.specs.Listed.{filed_in, marks_in}
 use Rattle.work.specs.Marks.{mark_of}
-use Rattle.work.specs.State.{Image, State, desk_in, state_in}
+use Rattle.work.specs.State.{Image, state_in}
 use Rattle.work.proofs.Listing.{filed_same, marks_same}
 
 -- a row of checks was passed

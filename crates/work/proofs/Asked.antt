@@ -1,5 +1,5 @@
 -- The answer to whoever asks for a number, read from memory. Assumes nothing.
-use Rattle.std.proofs.Common.{◌≡◌, ℕ, ◌<◌, true, length, is_some, Some, None, Option, sym, ap, arith, MatchOption}
+use Rattle.std.proofs.Common.{◌≡◌, ℕ, ◌<◌, true, is_some, Some, None, Option, sym, ap, arith, MatchOption}
 use Rattle.std.specs.List.{slice_get}
 use Rattle.orders.proofs.Places.{nth_some}
 use Rattle.orders.specs.Desk.{absent, asked, if_there}

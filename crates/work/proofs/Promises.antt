@@ -1,10 +1,10 @@
 -- The promises are kept: the laws of orders at filings, which are local, carried along each call. Assumes nothing.
-use Rattle.std.proofs.Common.{◌≡◌, ℕ, ◌≤◌, true, false, List, [], length, IfErr, Ok, Err, Result, sym, refl, ap, ◌∙◌, subst, arith}
+use Rattle.std.proofs.Common.{◌≡◌, ℕ, ◌≤◌, true, List, [], length, IfErr, Ok, Err, Result, sym, refl, ap, ◌∙◌, subst, arith}
 use Rattle.orders.proofs.Accepted.{first_is_ready, goes_is_accepted}
 use Rattle.orders.proofs.Decided.{only_done_counts}
 use Rattle.orders.proofs.History.{worked_in_order}
 use Rattle.orders.proofs.Reached.{first_is, order_of_work_unseen, reached, untouched_is_final}
-use Rattle.orders.specs.Desk.{Answer, Reached, ReachedBy, absent, finished, waits, ready, asked, by_filing, by_opening, by_work, first_open, if_ready, logged, open_at, opened, turn, work}
+use Rattle.orders.specs.Desk.{Answer, Reached, ReachedBy, absent, finished, waits, ready, asked, by_filing, by_opening, by_work, first_open, if_ready, logged, open_at, opened, work}
 use Rattle.orders.specs.Laws.{AsFiled}
 use Rattle.orders.specs.Orders.{Numbered}
 use Rattle.entries.specs.Order.{all_below, distinct}
@@ -13,7 +13,6 @@ use Rattle.pages.specs.Opening.{checked, opened_page}
 use Rattle.pages.specs.Register.{page_at}
 use Rattle.pages.specs.declared.refusal.Refusal.{Refusal}
 use Rattle.filings.specs.declared.filing.Filing.{Filing}
-use Rattle.entering.specs.declared.outcome.Outcome.{Outcome}
 use Rattle.steps.proofs.Locals.{filings_are_local}
 use Rattle.steps.proofs.Opening.{no_entries}
 use Rattle.steps.proofs.Ranks.{rank_kept}

@@ -1,17 +1,9 @@
 -- What is in the way of a filing, read from memory. Assumes nothing.
-use Rattle.std.proofs.Common.{◌≡◌, ℕ, suc, ◌+◌, ◌-◌, ◌<◌, ◌≤◌, Bool, true, false, cond, not, ◌&&◌, get_or, is_some, Some, None, Option, sym, refl, ap, ◌∙◌, add-one, arith}
+use Rattle.std.proofs.Common.{◌≡◌, ℕ, suc, ◌+◌, ◌-◌, ◌<◌, ◌≤◌, Bool, true, false, cond, ◌&&◌, Some, None, Option, ◌∙◌, add-one, arith}
 use Rattle.std.proofs.lemmas.Bool.{cond-true, cond-false}
 use Rattle.std.specs.List.{slice_get}
-use Rattle.orders.specs.Desk.{Answer, Desk, asked, in_way, is_open, is_ready, open_at, ready_from, shares_with, way_from}
+use Rattle.orders.specs.Desk.{Answer, Desk, asked, in_way, is_ready, open_at, ready_from, shares_with, way_from}
 use Rattle.orders.specs.Steps.{Acts}
-use Rattle.filings.specs.Keeping.{kept_at}
-use Rattle.filings.specs.Touches.{shares, touched_by}
-use Rattle.filings.specs.declared.filing.Filing.{Filing}
-use Rattle.entering.specs.declared.outcome.Outcome.{Outcome}
-use Rattle.steps.specs.Acting.{acts}
-use Rattle.work.specs.Marks.{mark_of}
-use Rattle.work.specs.State.{Image, desk_in}
-use Rattle.work.proofs.Listing.{filed_nth, marks_nth}
 
 -- an open one that shares a page is in the way
 module _ {Page Act Result : Type 0} (w : Acts Page Act Result) (d : Desk Page Act Result) (n : ℕ) (a : Act) (i : ℕ) where

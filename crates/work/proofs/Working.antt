@@ -1,5 +1,5 @@
 -- What work makes of the state, from what it makes of the memory. Assumes nothing.
-use Rattle.std.proofs.Common.{◌≡◌, ℕ, ◌<◌, List, length, set, Some, sym, refl, ap, ◌∙◌}
+use Rattle.std.proofs.Common.{◌≡◌, ℕ, ◌<◌, length, set, Some, sym, refl, ap, ◌∙◌}
 use Rattle.orders.specs.Desk.{Answer, asked, if_ready, ready, work}
 use Rattle.pages.specs.Register.{page_at}
 use Rattle.filings.specs.Keeping.{kept_at}
@@ -12,7 +12,7 @@ use Rattle.steps.specs.Acting.{acts}
 use Rattle.work.specs.Calls.{state_worked}
 use Rattle.work.specs.Listed.{filed_in, marks_in}
 use Rattle.work.specs.Marks.{mark_byte, mark_of}
-use Rattle.work.specs.State.{Image, State, desk_in, state_in}
+use Rattle.work.specs.State.{Image, desk_in, state_in}
 use Rattle.work.proofs.Listing.{marks_set}
 
 -- what was marked is read back

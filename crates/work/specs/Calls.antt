@@ -1,6 +1,6 @@
 -- What each call answers, and what it makes of the memory and of the state. What is refused changes nothing. Assumes nothing.
-use Rattle.std.specs.Prelude.{◌≡◌, ℕ, ◌+◌, ◌<◌, ◌≤◌, Bool, cond, List, length, Some, Ok, Err, Result, nat_le, nat_lt, slice_set}
-use Rattle.orders.specs.Desk.{Answer, absent, finished, waits, ready, asked, filed_more, opened, work}
+use Rattle.std.specs.Prelude.{◌≡◌, ℕ, ◌+◌, ◌<◌, ◌≤◌, cond, List, length, Some, Ok, Err, Result, nat_le, nat_lt, slice_set}
+use Rattle.orders.specs.Desk.{Answer, absent, finished, waits, ready, filed_more, opened, work}
 use Rattle.pages.specs.Opening.{opened_page, words_opened}
 use Rattle.pages.specs.Register.{Register, page_at, room}
 use Rattle.pages.specs.declared.refusal.Lent.TheVariants as lent
@@ -14,7 +14,7 @@ use Rattle.entering.specs.Entering.{act, outcome, words_after}
 use Rattle.entering.specs.declared.outcome.Outcome.{Outcome}
 use Rattle.steps.specs.Acting.{acts}
 use Rattle.work.specs.Marks.{mark_byte}
-use Rattle.work.specs.State.{Image, State, desk_in}
+use Rattle.work.specs.State.{Image, State}
 
 -- OPENING
 

@@ -1,19 +1,19 @@
 -- What is promised of every registry from an opening on, and what each call says of it. Assumes nothing.
-use Rattle.std.specs.Prelude.{◌≡◌, ℕ, ◌≤◌, true, false, List, [], length, IfOk, Some, Ok, Result}
+use Rattle.std.specs.Prelude.{◌≡◌, ℕ, ◌≤◌, true, false, List, [], length, Some, Ok, Result}
 use Rattle.std.specs.List.{slice_get}
 use Rattle.orders.specs.Desk.{FirstOpen, ReachedBy, accepted, asked, first_open, logged, open_at, opened, ready_from, touched_by, worked_all}
 use Rattle.orders.specs.Laws.{AsFiled, Goes, InOrder}
 use Rattle.orders.specs.Orders.{Numbered, numbers_of}
 use Rattle.entries.specs.Order.{all_below, distinct}
 use Rattle.entries.specs.Rank.{ahead, has, numbers}
-use Rattle.pages.specs.Opening.{checked, opened_page, opening}
+use Rattle.pages.specs.Opening.{checked, opened_page}
 use Rattle.pages.specs.Register.{page_at}
 use Rattle.pages.specs.declared.refusal.Refusal.{Refusal}
 use Rattle.filings.specs.declared.filing.Filing.{Filing}
 use Rattle.entering.specs.declared.outcome.Outcome.{Outcome}
 use Rattle.steps.specs.Acting.{acts}
 use Rattle.steps.specs.Ranks.{let_pass}
-use Rattle.work.specs.Calls.{answered, image_filed, image_opened, image_worked, number_given, state_filed, state_opened, state_worked, taking_in}
+use Rattle.work.specs.Calls.{answered, image_filed, image_worked, number_given, state_filed, state_worked, taking_in}
 use Rattle.work.specs.State.{Image, State, desk_in, state_in}
 
 -- by any interleaving of filing and asking, whatever was asked for, since it was opened with these pages; ys were worked, in this order

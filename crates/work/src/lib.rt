@@ -1,4 +1,6 @@
 // The registry: it takes filings in, and works them by the clerks' rule.
+#![tactic(auto)]
+
 pub mod asking;
 pub mod calls;
 mod doing;

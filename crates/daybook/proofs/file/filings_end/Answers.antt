@@ -1,4 +1,4 @@
-use Rattle.std.proofs.Common.{◌+◌, ◌-◌, length, sym, refl, ◌∙◌, arith}
+use Rattle.std.proofs.Common.{◌-◌, length, sym, ◌∙◌, arith}
 use Rattle.daybook.proofs.Ends.{enough, at_end, cut_off, passed}
 use Rattle.daybook.proofs.file.filings_end.Goals as goal
 

@@ -1,4 +1,4 @@
-use Rattle.std.proofs.Common.{◌≡◌, length, ap, ◌∙◌, arith}
+use Rattle.std.proofs.Common.{◌≡◌, ap, ◌∙◌, arith}
 use Rattle.pages.specs.Opening.{opened_words}
 use Rattle.pages.specs.Register.{room}
 use Rattle.pages.proofs.Openings.{opened_none, opened_more, opened_all}

@@ -1,4 +1,4 @@
-use Rattle.std.proofs.Common.{◌≡◌, sym, ap, ◌∙◌, arith}
+use Rattle.std.proofs.Common.{sym, ◌∙◌, arith}
 use Rattle.orders.proofs.Places.{nth_none}
 use Rattle.filings.specs.Keeping.{kept_at}
 use Rattle.work.specs.Listed.{filed_in}

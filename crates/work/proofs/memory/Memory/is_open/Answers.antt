@@ -1,4 +1,4 @@
-use Rattle.std.proofs.Common.{◌≡◌, sym, ap, ◌∙◌, arith}
+use Rattle.std.proofs.Common.{sym, ap, arith}
 use Rattle.orders.proofs.Places.{nth_none}
 use Rattle.orders.specs.Desk.{is_open}
 use Rattle.work.specs.Listed.{marks_in}

@@ -1,5 +1,5 @@
-use Rattle.std.proofs.Common.{◌≡◌, sym, refl, ap, ◌∙◌}
-use Rattle.work.specs.State.{image_of, state_in}
+use Rattle.std.proofs.Common.{refl}
+use Rattle.work.specs.State.{image_of}
 use Rattle.work.proofs.Promises.{begun}
 use Rattle.work.proofs.registry.Registry.begin.Goals as goal
 

@@ -1,4 +1,4 @@
-use Rattle.std.proofs.Common.{◌≡◌, sym, refl, ap, ◌∙◌, arith}
+use Rattle.std.proofs.Common.{refl, ap, ◌∙◌, arith}
 use Rattle.pages.specs.Register.{page_at}
 use Rattle.work.specs.Calls.{answered, image_worked}
 use Rattle.work.specs.State.{image_of, state_of}

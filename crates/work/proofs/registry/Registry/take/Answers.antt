@@ -1,9 +1,9 @@
-use Rattle.std.proofs.Common.{◌≡◌, ◌+◌, ◌*◌, ◌≤◌, length, Ok, sym, refl, ap, ◌∙◌, subst, arith}
+use Rattle.std.proofs.Common.{◌≡◌, ◌+◌, ◌*◌, ◌≤◌, length, sym, refl, ap, ◌∙◌, subst, arith}
 use Rattle.std.proofs.lemmas.List.{length-set}
 use Rattle.filings.specs.Keeping.{kept_at, put_kept, slots_in}
 use Rattle.pages.specs.Register.{room}
 use Rattle.work.specs.Calls.{image_filed, number_given, state_filed}
-use Rattle.work.specs.State.{image_of, state_in, state_of}
+use Rattle.work.specs.State.{image_of, state_of}
 use Rattle.work.proofs.Admits.{all_kept, state_one_more}
 use Rattle.work.proofs.Promises.{onward_filed}
 use Rattle.work.proofs.registry.Registry.take.Goals as goal
