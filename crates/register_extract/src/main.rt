@@ -1,4 +1,5 @@
 // Prints the extract of a parcel: see `programs::extract`.
+#![tactic(auto)]
 
 fn main(rt: HostRuntime) -> anyhow::Result<()> {
     programs::extract::register_extract(&rt)

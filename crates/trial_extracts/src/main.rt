@@ -1,4 +1,6 @@
 // Extracts of the worked example's other parcels: see `programs::extract`.
+#![tactic(auto)]
+
 use programs::extract::extract_of_file;
 use std::fs;
 

@@ -1,4 +1,5 @@
 // `register_work --ready` on a day book of which some filings stay open.
+#![tactic(auto)]
 
 fn main(rt: HostRuntime) -> anyhow::Result<()> {
     programs::work::register_work(&rt)

@@ -1,4 +1,5 @@
 // `register_work` on an opening that is refused, from standard input.
+#![tactic(auto)]
 
 fn main(rt: HostRuntime) -> anyhow::Result<()> {
     programs::work::register_work(&rt)

@@ -88,7 +88,14 @@ fn worked(registry: &mut Registry<'_>, from: u16, to: u16) -> bool {
 
 fn drawn(rt: &impl Abort, heap: Global, registry: &mut Registry<'_>) -> Result<(), Fail> {
     assert!(rt; filed(registry));
-    assert!(rt; says(heap, registry, 1, "parcel 1 owner 5 area 50 live\nopen 3 12")?);
+    assert!(rt;
+        says(
+            heap,
+            registry,
+            1,
+            "parcel 1 owner 5 area 50 live\nopen 3 12"
+        )?
+    );
     assert!(rt; says(heap, registry, 14, "parcel 14 not there\nopen 6 7 9 12")?);
     assert!(rt; worked(registry, 0, 4));
     assert!(rt; says(heap, registry, 0, RANKED)?);
@@ -96,8 +103,8 @@ fn drawn(rt: &impl Abort, heap: Global, registry: &mut Registry<'_>) -> Result<(
     assert!(rt; says(heap, registry, 0, CLOSED)?);
     assert!(rt; worked(registry, 7, 13));
     assert!(rt; says(heap, registry, 15, MADE)?);
-    assert!(
-        rt; says(heap, registry, 20, "parcel 20 not there\nopen none")?,
+    assert!(rt;
+        says(heap, registry, 20, "parcel 20 not there\nopen none")?,
         "a rejected merger's"
     );
     assert!(rt; is_refused(heap, registry, 16), "a transfer makes none");

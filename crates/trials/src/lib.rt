@@ -1,4 +1,6 @@
 // Tests at the edges of what is taken and refused, a module for each layer.
+#![tactic(auto)]
+
 #[cfg(test)]
 mod acts;
 #[cfg(test)]
