@@ -1,6 +1,6 @@
 -- Bytes that are read are the file that says what was read. Assumes nothing.
 use Rattle.std.proofs.Common.{◌≡◌, ℕ, zero, suc, ◌+◌, ◌-◌, ◌*◌, ◌/◌, ◌%◌, ◌<◌, ◌≤◌, Bool, true, false, cond, eqb, ltb, leb, List, [], ◌∷◌, ◌++◌, length, take, drop, Ok, Err, Result, sym, refl, ap, ◌∙◌, subst, arith, length-drop, length-take}
-use Rattle.std.specs.List.{flat_map, AllByRecursion as All}
+use Rattle.std.specs.List.{flat_map, AllByRecursion}
 use Rattle.std.proofs.ByRecursion.{All-drop}
 use Rattle.std.proofs.lemmas.List.{take-append-drop, drop-drop, drop_more, length-take-le, drop-take, take-take}
 use Rattle.std.proofs.lemmas.Bool.{leb-false, eqb-true, ltb-false}
@@ -13,7 +13,7 @@ use Rattle.daybook.specs.File.{Parts, after_length, two_bytes, written, cut, fil
 use Rattle.daybook.specs.Laws.{WrittenIfRead}
 
 -- bytes in pairs are the numbers that they were read as
-numbers_read : (bs : List ℕ) → All (λ b. b < 256) bs → length bs % 2 ≡ 0 → flat_map two_bytes (numbers_in bs) ≡ bs
+numbers_read : (bs : List ℕ) → AllByRecursion (λ b. b < 256) bs → length bs % 2 ≡ 0 → flat_map two_bytes (numbers_in bs) ≡ bs
 numbers_read [] all even = refl
 numbers_read (a ∷ []) all even = absurd (omega arith)
 numbers_read (a ∷ b ∷ bs) all even =
@@ -131,7 +131,7 @@ whole_if_read bs p e =
     by_length false x s (Ok u) q (Ok end) r h = by_order (eqb ((length bs - (end + 1)) % 2) 0) end _ refl (ltb-false _ _ s) q r h
 
 -- the first two bytes are those of the number that they were read as
-first_two : (bs : List ℕ) → 2 ≤ length bs → All (λ b. b < 256) bs → two_bytes (two bs 0) ++ drop 2 bs ≡ bs
+first_two : (bs : List ℕ) → 2 ≤ length bs → AllByRecursion (λ b. b < 256) bs → two_bytes (two bs 0) ++ drop 2 bs ≡ bs
 first_two [] h all = absurd (omega arith)
 first_two (a ∷ []) h all = absurd (omega arith)
 first_two (a ∷ b ∷ bs) h all =

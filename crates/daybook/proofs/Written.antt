@@ -1,6 +1,6 @@
 -- A file that is written is read as what it says. Assumes nothing.
 use Rattle.std.proofs.Common.{◌≡◌, ℕ, zero, suc, ◌+◌, ◌-◌, ◌*◌, ◌/◌, ◌%◌, ◌<◌, ◌≤◌, List, [], ◌∷◌, ◌++◌, length, take, drop, Ok, sym, refl, ap, ◌∙◌, append_assoc, add-zero, arith, length-append}
-use Rattle.std.specs.List.{flat_map, AllByRecursion as All}
+use Rattle.std.specs.List.{flat_map, AllByRecursion}
 use Rattle.std.proofs.lemmas.List.{get_or_at, take_at, drop_at}
 use Rattle.pages.specs.Bytes.{byte, two}
 use Rattle.pages.specs.Opening.{checked}
@@ -16,7 +16,7 @@ rows fs = flat_map after_length fs
 
 -- the filings end where they were written to
 row_end :
-    (fs : List (List ℕ)) (pre rest : List ℕ) (n : ℕ) → All (λ f. 0 < length f) fs → length (pre ++ (rows fs ++ 0 ∷ rest)) - length pre ≤ n →
+    (fs : List (List ℕ)) (pre rest : List ℕ) (n : ℕ) → AllByRecursion (λ f. 0 < length f) fs → length (pre ++ (rows fs ++ 0 ∷ rest)) - length pre ≤ n →
     end_from n (pre ++ (rows fs ++ 0 ∷ rest)) (length pre) ≡ Ok (length pre + length (rows fs))
 row_end [] pre rest n all h =
     at_end n (pre ++ 0 ∷ rest) (length pre) (simp length-append (omega arith)) h (get_or_at pre 0 rest 0 (length pre) refl) ∙ ap Ok (sym (add-zero (length pre)))

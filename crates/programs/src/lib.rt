@@ -5,4 +5,4 @@ mod command;
 pub mod extract;
 mod line;
 mod office;
-pub mod work;
+pub mod working;

@@ -1,6 +1,6 @@
-// Works through a file of filings: see `programs::work`.
+// Works through a file of filings: see `programs::working`.
 #![tactic(auto)]
 
 fn main(rt: HostRuntime) -> anyhow::Result<()> {
-    programs::work::register_work(&rt)
+    programs::working::register_work(&rt)
 }

@@ -1,7 +1,7 @@
 -- A filing changes only pages that it touches, and depends on those alone. Assumes nothing.
 use Rattle.std.proofs.Common.{◌≡◌, ℕ, ◌+◌, Bool, true, false, cond, ◌&&◌, eqb, ltb, List, [], ◌∷◌, ◌++◌, Ok, Err, Result, sym, refl, ap, ◌∙◌, ⊎_elim}
 use Rattle.std.proofs.lemmas.Bool.{cases_Bool, cond-false, eq-eqb, eqb-true, or_left, or_right, true≢false}
-use Rattle.std.specs.List.{AllByRecursion as All}
+use Rattle.std.specs.List.{AllByRecursion}
 use Rattle.entries.specs.Order.{alike}
 use Rattle.entries.specs.Sheet.{Sheet}
 use Rattle.pages.specs.Register.{Register, put}
@@ -18,7 +18,7 @@ use Rattle.steps.specs.Acting.{FilingsAreLocal}
 
 -- only pages of a list are written
 abbrev Within : List ℕ → Result (List Change) Rejection → Type 0
-Within ps (Ok cs) = All (λ c. member c.parcel ps ≡ true) cs
+Within ps (Ok cs) = AllByRecursion (λ c. member c.parcel ps ≡ true) cs
 Within ps (Err k) = Unit {0}
 
 within_cond : (ps : List ℕ) (b : Bool) (x y : Result (List Change) Rejection) → Within ps x → Within ps y → Within ps (cond b x y)

@@ -2,5 +2,5 @@
 #![tactic(auto)]
 
 fn main(rt: HostRuntime) -> anyhow::Result<()> {
-    programs::work::register_work(&rt)
+    programs::working::register_work(&rt)
 }
