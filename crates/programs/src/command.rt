@@ -27,11 +27,7 @@ fn is_flag(word: &str, flag: Option<&str>) -> bool {
 }
 
 // What a program's words ask for, in any order; its usage is the error where they make no sense.
-pub(crate) fn asked(
-    rt: &HostRuntime,
-    flag: Option<&str>,
-    usage: &'static str,
-) -> anyhow::Result<Command> {
+pub(crate) fn asked(rt: &HostRuntime, flag: Option<&str>, usage: &str) -> anyhow::Result<Command> {
     let mut flagged = false;
     let mut file = None;
     let mut words = env::args(rt)?;
@@ -41,7 +37,9 @@ pub(crate) fn asked(
             "--help" => return Ok(Command::Help),
             "--version" => return Ok(Command::Version),
             own if is_flag(own, flag) && !flagged => flagged = true,
-            other if other.starts_with("-") || file.is_some() => return Err(anyhow!(usage)),
+            other if other.starts_with("-") || file.is_some() => return Err(anyhow!(
+                format!(in rt.alloc(); "{usage}")?
+            )),
             _ => file = Some(word),
         }
     }

@@ -100,8 +100,9 @@ fn run(rt: &HostRuntime) -> anyhow::Result<()> {
 }
 
 pub fn register_extract(rt: &HostRuntime) -> anyhow::Result<()> {
-    match run(rt) {
-        Ok(()) => Ok(()),
-        Err(error) => Err(anyhow!(format!(in rt.alloc(); "register_extract: {error}")?)),
+    let result = run(rt);
+    if let Err(error) = &result {
+        let _ = eprintln!(rt; "register_extract: {error}");
     }
+    result
 }

@@ -2,6 +2,7 @@
 #![tactic(auto)]
 
 mod command;
+pub mod ending;
 pub mod extract;
 mod line;
 mod office;

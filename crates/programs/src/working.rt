@@ -102,8 +102,9 @@ fn run(rt: &HostRuntime) -> anyhow::Result<()> {
 }
 
 pub fn register_work(rt: &HostRuntime) -> anyhow::Result<()> {
-    match run(rt) {
-        Ok(()) => Ok(()),
-        Err(error) => Err(anyhow!(format!(in rt.alloc(); "register_work: {error}")?)),
+    let result = run(rt);
+    if let Err(error) = &result {
+        let _ = eprintln!(rt; "register_work: {error}");
     }
+    result
 }

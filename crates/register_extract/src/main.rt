@@ -1,6 +1,9 @@
 // Prints the extract of a parcel: see `programs::extract`.
 #![tactic(auto)]
 
-fn main(rt: HostRuntime) -> anyhow::Result<()> {
-    programs::extract::register_extract(&rt)
+use programs::ending::status;
+use std::process::ExitCode;
+
+fn main(rt: HostRuntime) -> ExitCode {
+    status(programs::extract::register_extract(&rt))
 }

@@ -1,6 +1,9 @@
 // Works through a file of filings: see `programs::working`.
 #![tactic(auto)]
 
-fn main(rt: HostRuntime) -> anyhow::Result<()> {
-    programs::working::register_work(&rt)
+use programs::ending::status;
+use std::process::ExitCode;
+
+fn main(rt: HostRuntime) -> ExitCode {
+    status(programs::working::register_work(&rt))
 }

@@ -1,6 +1,9 @@
 // `register_work --ready` on a day book of which some filings stay open.
 #![tactic(auto)]
 
-fn main(rt: HostRuntime) -> anyhow::Result<()> {
-    programs::working::register_work(&rt)
+use programs::ending::status;
+use std::process::ExitCode;
+
+fn main(rt: HostRuntime) -> ExitCode {
+    status(programs::working::register_work(&rt))
 }

@@ -1,6 +1,9 @@
 // `register_work` on an opening that is refused, from standard input.
 #![tactic(auto)]
 
-fn main(rt: HostRuntime) -> anyhow::Result<()> {
-    programs::working::register_work(&rt)
+use programs::ending::status;
+use std::process::ExitCode;
+
+fn main(rt: HostRuntime) -> ExitCode {
+    status(programs::working::register_work(&rt))
 }
