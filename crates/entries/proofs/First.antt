@@ -1,11 +1,12 @@
 -- The first entry that answers a test: where it stands, and what each act does there. Assumes nothing.
-use Rattle.std.proofs.Common.{◌≡◌, ℕ, zero, suc, ◌+◌, ◌<◌, ◌≤◌, Bool, true, false, cond, ◌||◌, List, [], ◌∷◌, ◌++◌, length, get_or, take, set, refl, ap, ◌∙◌, ⊎_elim, add-one, arith}
-use Rattle.std.specs.List.{remove}
+use Rattle.std.proofs.Common.{◌≡◌, ℕ, suc, ◌+◌, ◌<◌, ◌≤◌, Bool, true, false, cond, ◌||◌, List, [], ◌∷◌, ◌++◌, length, get_or, set, refl, ap, ◌∙◌, ⊎_elim, add-one, arith, ltb, position, Some, None}
+use Rattle.std.specs.List.{remove, swap}
 use Rattle.std.proofs.lemmas.List.Edits.{swap_is}
-use Rattle.std.proofs.lemmas.List.{take_more}
-use Rattle.std.proofs.lemmas.Bool.{cases_Bool, or_parts}
-use Rattle.entries.specs.Places.{First}
-use Rattle.entries.specs.Rank.{any, front, changed, without, yielded}
+use Rattle.std.proofs.lemmas.Bool.{cases_Bool}
+use Rattle.std.proofs.lemmas.Bool.Decides.{nat_tests}
+use Rattle.std.specs.List.{position_or_len}
+use Rattle.std.proofs.lemmas.List.Recursion.{is_position_or_len}
+use Rattle.entries.specs.Rank.{any, front, changed, charge, without, yielded}
 use Rattle.entries.specs.declared.entry.Entry.{Entry}
 
 -- the entries at a place and at the next have changed places
@@ -52,33 +53,50 @@ module _ (t : Entry → Bool) where
       let P : Bool → Type 0 = λ b. suc (length (cond b [] (e ∷ front t (f ∷ es)))) < suc (suc (length es)) → cond b (f ∷ e ∷ es) (e ∷ yielded t (f ∷ es)) ≡ swapped d (e ∷ f ∷ es) (length (cond b [] (e ∷ front t (f ∷ es)))) in
       elim (t e) as P [ true ↦ (λ g. refl) | false ↦ (λ g. ap (λ l. e ∷ l) (yielded_is d (f ∷ es) (omega arith))) ] h
 
-  -- one more place has been looked at
-  pub any_more : (xs : List Entry) (i : ℕ) (d : Entry) → i < length xs → any t (take i xs) ≡ false → t (get_or xs i d) ≡ false → any t (take (i + 1) xs) ≡ false
-  unfolding any
-  any_more xs i d h none not = let here = any_append (take i xs) (get_or xs i d ∷ []) in let more = take_more xs i d h in cc
+  -- the first place that answers, as std counts it
+  front_is : (es : List Entry) → length (front t es) ≡ position_or_len t es
+  unfolding front
+  front_is es = is_position_or_len (λ fs. length (front t fs)) t refl (λ e fs. turned (t e) e (front t fs)) es
+    where
+      turned : (b : Bool) (e : Entry) (fs : List Entry) → length (cond b [] (e ∷ fs)) ≡ cond b 0 (1 + length fs)
+      turned true e fs = refl
+      turned false e fs = omega arith
 
-  -- the first place at which the test is answered
-  found_at : (xs : List Entry) (n i : ℕ) (d : Entry) → i < n → n ≤ length xs → any t (take i xs) ≡ false → t (get_or xs i d) ≡ true → (any t (take n xs) ≡ true) × (length (front t (take n xs)) ≡ i)
+  any_is : (es : List Entry) → any t es ≡ ltb (length (front t es)) (length es)
   unfolding any front
-  found_at [] n i d h l none this = absurd (omega arith)
-  found_at (x ∷ xs) zero i d h l none this = absurd (omega arith)
-  found_at (x ∷ xs) (suc n) zero d h l none this = (cc, cc)
-  found_at (x ∷ xs) (suc n) (suc i) d h l none this =
-      let parts = or_parts (t x) (any t (take i xs)) none in
-      let next = found_at xs n i d (omega arith) (omega arith) parts.1 this in
-      (cc, cc)
+  any_is [] = refl
+  any_is (e ∷ es) =
+      let P : Bool → Type 0 = λ b. (b || any t es) ≡ ltb (length (cond b [] (e ∷ front t es))) (suc (length es)) in
+      elim (t e) as P [ true ↦ grind (arith, nat_tests) | false ↦ any_is es ∙ grind (arith, nat_tests) ]
 
-  pub first_at : (xs : List Entry) (n i : ℕ) (d : Entry) → i < n → n ≤ length xs → any t (take i xs) ≡ false → t (get_or xs i d) ≡ true → First t (take n xs) i
-  first_at xs n i d h l none this =
-      let found = found_at xs n i d h l none this in
-      let es = take n xs in
-      let within : length (front t es) < length es = front_within es found.0 in
-      record {
-        stands = found.0;
-        rank = found.1;
-        within = omega arith;
-        changes = λ new. changed_is new es ∙ ap (λ k. set es k new) found.1;
-        leaves = without_is es found.0 ∙ ap (remove es) found.1;
-        stays = λ e. yielded_last es (omega arith);
-        yields = λ more. yielded_is d es (omega arith) ∙ ap (swapped d es) found.1 ∙ rw (← add-one i) (swap_is es i (i + 1) d (omega arith) (omega arith));
-      }
+  pub none_of : (es : List Entry) → position t es ≡ None → any t es ≡ false
+  none_of es h =
+      let here = front_is es in
+      let there = any_is es in
+      ⊎_elim (λ y. absurd (let z : ◌≡◌ {A = ℕ} 0 1 = cc in omega arith)) (λ n. cc) (cases_Bool (ltb (position_or_len t es) (length es)))
+
+  -- where the first that answers stands, each act on it is one at that place
+  module _ (es : List Entry) (k : ℕ) (h : position t es ≡ Some k) where
+    found_at : (any t es ≡ true) × (length (front t es) ≡ k)
+    found_at =
+        let here = front_is es in
+        let there = any_is es in
+        ⊎_elim (λ y. (cc, cc)) (λ n. absurd (let z : ◌≡◌ {A = ℕ} 0 1 = cc in omega arith)) (cases_Bool (ltb (position_or_len t es) (length es)))
+
+    pub any_at : any t es ≡ true
+    any_at = found_at.0
+
+    pub changed_at : (new : Entry) → changed t new es ≡ set es k new
+    changed_at new = changed_is new es ∙ ap (λ k. set es k new) found_at.1
+
+    pub without_at : without t es ≡ remove es k
+    without_at = without_is es found_at.0 ∙ ap (remove es) found_at.1
+
+    pub yielded_at_end : length es ≡ k + 1 → yielded t es ≡ es
+    yielded_at_end e = let rank = found_at.1 in yielded_last es (omega arith)
+
+    pub yielded_at : k + 1 < length es → yielded t es ≡ swap es k (k + 1)
+    yielded_at more =
+        let rank = found_at.1 in
+        let d = charge 0 0 0 in
+        yielded_is d es (omega arith) ∙ ap (swapped d es) rank ∙ rw (← add-one k) (swap_is es k (k + 1) d (omega arith) (omega arith))

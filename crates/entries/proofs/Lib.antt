@@ -1,4 +1,6 @@
 -- The lemmas; crates above take the laws from Rank.
+pub mod Steps
+pub mod Alike
 pub mod First
 pub mod Numbers
 pub mod Rank

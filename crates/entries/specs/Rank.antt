@@ -60,10 +60,6 @@ has_reserved k h es = any (is_reserved k h) es
 abbrev pub ahead : ℕ → ℕ → List Entry → List Entry
 ahead k h es = front (is k h) es
 
--- where the first that answers the test stands, counted from 0
-abbrev pub place : (Entry → Bool) → List Entry → Option ℕ
-place t es = cond (any t es) (Some (length (front t es))) None
-
 abbrev pub charge : ℕ → ℕ → ℕ → Entry
 charge k h m = record { number = k; holder = h; claim = Charge m }
 

@@ -4,54 +4,58 @@ ghost use Rattle.entries.specs.Sheet.{sheet};
 ghost use Rattle.std.specs.Option.{option_map};
 ghost use Rattle.std.specs.Prelude.{◌≡◌};
 
-use crate::entry::{Claim, Entry};
+use crate::entry::{Claim, Entry, EntryName};
 use crate::page::{MOST_ENTRIES, Page};
 
 impl Page {
     // A new entry ranks behind all that stand; none where 32 stand.
-    pub fn append(self, entry: Entry) -> Option<Page>
+    pub fn append(mut self, entry: Entry) -> Option<Page>
         ensures { option_map sheet result ≡ appended_sheet (sheet self) entry }
     {
         if self.count == MOST_ENTRIES {
             return None;
         }
-        Some(self.push(entry))
+        self.entries[self.count] = entry;
+        self.count += 1;
+        Some(self)
     }
 
     // A charge takes the rank that was kept for it; none where this holder has no such reservation.
-    pub fn fill(self, number: u16, holder: u32, amount: u64) -> Option<Page>
-        ensures { option_map sheet result ≡ filled_sheet (sheet self) number holder amount }
+    #[tactic(auto, using(crate::proofs::Steps::acts_at))]
+    pub fn fill(mut self, name: EntryName, amount: u64) -> Option<Page>
+        ensures { option_map sheet result ≡ filled_sheet (sheet self) name.number name.holder amount }
     {
-        let Some(k) = self.first(number, holder, true) else {
-            return None;
-        };
-        let charge = Entry {
-            number,
-            holder,
+        let place = self.find_reserved(name)?;
+        self.entries[place] = Entry {
+            number: name.number,
+            holder: name.holder,
             claim: Claim::Charge(amount),
         };
-        Some(self.put(k, charge))
+        Some(self)
     }
 
-    pub fn release(self, number: u16, holder: u32) -> Option<Page>
-        ensures { option_map sheet result ≡ released_sheet (sheet self) number holder }
+    // The later entries move up.
+    #[tactic(auto, using(crate::proofs::Steps::acts_at))]
+    pub fn release(mut self, name: EntryName) -> Option<Page>
+        ensures { option_map sheet result ≡ released_sheet (sheet self) name.number name.holder }
     {
-        let Some(k) = self.first(number, holder, false) else {
-            return None;
-        };
-        Some(self.remove(k))
+        let place = self.find(name)?;
+        let count = self.count;
+        self.entries[place..count].rotate_left(1);
+        self.count = count - 1;
+        Some(self)
     }
 
     // The entry changes places with the one after it; the last stays where it is.
-    pub fn postpone(self, number: u16, holder: u32) -> Option<Page>
-        ensures { option_map sheet result ≡ postponed_sheet (sheet self) number holder }
+    #[tactic(auto, using(crate::proofs::Steps::acts_at))]
+    pub fn postpone(mut self, name: EntryName) -> Option<Page>
+        ensures { option_map sheet result ≡ postponed_sheet (sheet self) name.number name.holder }
     {
-        let Some(k) = self.first(number, holder, false) else {
-            return None;
-        };
-        if k + 1 == self.count {
+        let place = self.find(name)?;
+        if place + 1 == self.count {
             return Some(self);
         }
-        Some(self.swap(k, k + 1))
+        self.entries.swap(place, place + 1);
+        Some(self)
     }
 }

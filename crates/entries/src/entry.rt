@@ -1,10 +1,8 @@
 // An entry on a parcel's page: the number of the filing that made it, who holds it, and what it claims.
-ghost use Rattle.std.specs.Prelude.{◌≡◌, Decides};
-ghost use Rattle.std.specs.Cmp.Rules.{comparing};
-ghost use Rattle.std.proofs.Common.{rules};
-ghost use Rattle.entries.specs.Order.{same, same_claim};
+ghost use Rattle.std.specs.Prelude.{◌≡◌};
+ghost use Rattle.entries.specs.Rank.{is, is_reserved};
 
-#[derive(Clone, Copy)]
+#[derive(Clone, Copy, PartialEq, Eq, Debug)]
 pub enum Claim {
     // so many cents
     Charge(u64),
@@ -12,7 +10,14 @@ pub enum Claim {
     Reserved,
 }
 
-#[derive(Clone, Copy)]
+// What an entry goes by: its number and its holder, never one alone.
+#[derive(Clone, Copy, PartialEq, Eq, Debug)]
+pub struct EntryName {
+    pub number: u16,
+    pub holder: u32,
+}
+
+#[derive(Clone, Copy, PartialEq, Eq, Debug)]
 pub struct Entry {
     pub number: u16,
     pub holder: u32,
@@ -26,32 +31,16 @@ pub const BLANK: Entry = Entry {
     claim: Claim::Reserved,
 };
 
-impl PartialEq for Claim {
-    ghost eq = { same_claim };
-
-    ghost laws = { Prim.search (comparing, rules) };
-
-    fn eq(&self, other: &Claim) -> bool
-        ensures value { result ≡ same_claim self.now other.now }
-        ensures decides { Decides result (self.now ≡ other.now) }
+impl Entry {
+    pub fn is(self, name: EntryName) -> bool
+        ensures { result ≡ is name.number name.holder self }
     {
-        match (*self, *other) {
-            (Claim::Charge(a), Claim::Charge(b)) => a == b,
-            (Claim::Reserved, Claim::Reserved) => true,
-            _ => false,
-        }
+        self.number == name.number && self.holder == name.holder
     }
-}
 
-impl PartialEq for Entry {
-    ghost eq = { same };
-
-    ghost laws = { Prim.search (comparing, rules) };
-
-    fn eq(&self, other: &Entry) -> bool
-        ensures value { result ≡ same self.now other.now }
-        ensures decides { Decides result (self.now ≡ other.now) }
+    pub fn is_reserved(self, name: EntryName) -> bool
+        ensures { result ≡ is_reserved name.number name.holder self }
     {
-        self.number == other.number && self.holder == other.holder && self.claim == other.claim
+        self.is(name) && self.claim == Claim::Reserved
     }
 }

@@ -6,5 +6,4 @@ pub mod entry;
 pub mod laws;
 pub mod page;
 pub mod parcel;
-mod places;
 pub mod read;
