@@ -1,7 +1,8 @@
 -- Entering filing n in a register that was opened with P parcels: which pages it writes, or why it is rejected. Assumes nothing.
-use Rattle.std.specs.Prelude.{◌≡◌, ℕ, ◌+◌, ◌-◌, ◌^◌, min, Bool, cond, List, [], ◌∷◌, Ok, Err, Result, nat_lt}
+use Rattle.std.specs.Prelude.{MatchBool, ◌≡◌, ℕ, ◌+◌, ◌-◌, ◌^◌, min, Bool, cond, List, [], ◌∷◌, Ok, Err, Result, nat_lt}
 use Rattle.std.specs.Result.{result_map_both}
-use Rattle.entries.specs.Sheet.{Sheet}
+use Rattle.entries.specs.Sheet.{Sheet, sheet}
+use Rattle.entries.specs.declared.page.Page.{Page}
 use Rattle.entries.specs.Rank.{closed_sheet, made_sheet}
 use Rattle.pages.specs.Register.{Register, page_at, put, put_page, room}
 use Rattle.pages.specs.declared.refusal.Lent.TheVariants as lent
@@ -14,6 +15,7 @@ use Rattle.entering.specs.Acts.{if_live, transferred, charged, kept_for, filled_
 use Rattle.entering.specs.declared.outcome.Outcome.{Outcome}
 use Rattle.entering.specs.declared.outcome.Outcome.TheVariants.{Entered, Rejected}
 use Rattle.entering.specs.declared.outcome.Rejection.{Rejection}
+use Rattle.entering.specs.declared.outcome.Rejection.TheVariants.{NotLive}
 
 -- a page that is written
 pub record Change : Type 0 where
@@ -103,3 +105,15 @@ pub record Judged (a : Result (List Change) Rejection) (ws : List ℕ) (o : Outc
   pub outcome : o ≡ verdict a
   pub words : after ≡ words_after a ws
   pub register : page_at after ≡ register_after a (page_at ws)
+
+-- what a change of one page comes to, by an act of which only its contract is known
+pub record Acted (post : Page → Result Page Rejection → Type 0) (p : ℕ) (ws : List ℕ) (r : Result (Unit {0}) Rejection) (after : List ℕ) : Type 0 where
+  pub page : Page
+  pub made : Result Page Rejection
+  pub was : sheet page ≡ page_at ws p
+  pub acts : post page made
+  pub done : Done (alone p (result_map_both sheet (λ k. k) made)) ws r after
+
+-- a page that is not live is not acted on
+abbrev pub Changed : (Page → Result Page Rejection → Type 0) → ℕ → List ℕ → Result (Unit {0}) Rejection → List ℕ → Type 0
+Changed post p ws r after = MatchBool (page_at ws p).live (Acted post p ws r after) (Done (Err NotLive) ws r after)

@@ -1,16 +1,15 @@
 // Entering one filing on the pages in lent words: a decision over the kinds, each of which checks and then writes.
-ghost use Rattle.std.specs.Prelude.{◌≡◌, ◌+◌, ◌<◌, ◌≤◌, IfOk, Ok, OnOk};
+ghost use Rattle.std.specs.Prelude.{◌≡◌, ◌+◌, ◌<◌, ◌≤◌, true, IfOk, Ok, OnOk};
 ghost use Rattle.std.specs.Result.{result_map_both};
 ghost use Rattle.entries.specs.Sheet.{sheet};
 ghost use Rattle.pages.specs.Register.{page_at, room};
-ghost use Rattle.filings.specs.declared.filing.Filing.TheVariants.{Transfer, Charge, Reserve, Fill, Release, Postpone, Subdivide, Merge};
+ghost use Rattle.filings.specs.declared.filing.Filing.TheVariants.{Subdivide, Merge};
 ghost use Rattle.entering.specs.Acts.{if_live};
-ghost use Rattle.entering.specs.Entering.{act, alone, entering, register_entered, words_entered, Done, Judged};
+ghost use Rattle.entering.specs.Entering.{act, entering, register_entered, words_entered, Changed, Done, Judged};
 
-use crate::acts::{
-    charged, divisible, filled, mergeable, postponed, released, reserved, transferred,
-};
+use crate::acts::{appended, divisible, filled, mergeable, postponed, released, transferred};
 use crate::outcome::{Outcome, Rejection};
+use entries::entry::{Claim, Entry, EntryName};
 use entries::page::Page;
 use filings::filing::Filing;
 use pages::refusal::{Lent, Refusal};
@@ -19,6 +18,8 @@ use pages::register::{pages_room, read_page, write_page};
 // The page of a parcel that is there and live.
 fn live_page(words: &[u64], parcel: u16) -> Result<Page, Rejection>
     ensures page { result_map_both sheet (λ e. e) result ≡ if_live (page_at words.now parcel) (Ok (page_at words.now parcel)) }
+    ensures read { IfOk result (λ page. sheet page ≡ page_at words.now parcel) }
+    ensures live { OnOk result ((page_at words.now parcel).live ≡ true) }
     ensures within { OnOk result (parcel < room words.now) }
 {
     let page = read_page(words, parcel as usize);
@@ -28,76 +29,19 @@ fn live_page(words: &[u64], parcel: u16) -> Result<Page, Rejection>
     Ok(page)
 }
 
-// Writes what was made of a page, or hands on why nothing was.
-fn rewrite(words: &mut [u64], parcel: u16, made: Result<Page, Rejection>) -> Result<(), Rejection>
-    requires { parcel < room words.old }
-    ensures { Done (alone parcel (result_map_both sheet (λ e. e) made)) words.old result words.new }
+// Writes what an act makes of the page of a parcel, or hands on why nothing is made.
+fn change<F: FnOnce(Page) -> Result<Page, Rejection>>(
+    words: &mut [u64],
+    parcel: u16,
+    act: F,
+) -> Result<(), Rejection>
+    requires { F.IsAlwaysCallable act }
+    ensures { Changed (F.post act) parcel words.old result words.new }
 {
-    let page = made?;
-    write_page(words, parcel as usize, page);
+    let page = live_page(words, parcel)?;
+    let made = act(page)?;
+    write_page(words, parcel as usize, made);
     Ok(())
-}
-
-fn transfer(words: &mut [u64], parcel: u16, owner: u32, to: u32) -> Result<(), Rejection>
-    ensures { Done (act 0 0 (Transfer parcel owner to) (page_at words.old)) words.old result words.new }
-{
-    let page = live_page(words, parcel)?;
-    rewrite(words, parcel, transferred(page, owner, to))
-}
-
-fn charge(
-    words: &mut [u64],
-    number: u16,
-    parcel: u16,
-    owner: u32,
-    holder: u32,
-    amount: u64,
-) -> Result<(), Rejection>
-    ensures { Done (act 0 number (Charge parcel owner holder amount) (page_at words.old)) words.old result words.new }
-{
-    let page = live_page(words, parcel)?;
-    rewrite(words, parcel, charged(page, number, owner, holder, amount))
-}
-
-fn reserve(
-    words: &mut [u64],
-    number: u16,
-    parcel: u16,
-    owner: u32,
-    holder: u32,
-) -> Result<(), Rejection>
-    ensures { Done (act 0 number (Reserve parcel owner holder) (page_at words.old)) words.old result words.new }
-{
-    let page = live_page(words, parcel)?;
-    rewrite(words, parcel, reserved(page, number, owner, holder))
-}
-
-fn fill(
-    words: &mut [u64],
-    parcel: u16,
-    owner: u32,
-    holder: u32,
-    number: u16,
-    amount: u64,
-) -> Result<(), Rejection>
-    ensures { Done (act 0 0 (Fill parcel owner holder number amount) (page_at words.old)) words.old result words.new }
-{
-    let page = live_page(words, parcel)?;
-    rewrite(words, parcel, filled(page, owner, holder, number, amount))
-}
-
-fn release(words: &mut [u64], parcel: u16, holder: u32, number: u16) -> Result<(), Rejection>
-    ensures { Done (act 0 0 (Release parcel holder number) (page_at words.old)) words.old result words.new }
-{
-    let page = live_page(words, parcel)?;
-    rewrite(words, parcel, released(page, holder, number))
-}
-
-fn postpone(words: &mut [u64], parcel: u16, holder: u32, number: u16) -> Result<(), Rejection>
-    ensures { Done (act 0 0 (Postpone parcel holder number) (page_at words.old)) words.old result words.new }
-{
-    let page = live_page(words, parcel)?;
-    rewrite(words, parcel, postponed(page, holder, number))
 }
 
 // The parts are the parcels `first` and the next; both go on with the entries of the parcel, which is closed.
@@ -146,35 +90,54 @@ fn enter_kind(words: &mut [u64], first: usize, number: u16, filing: Filing) -> R
     ensures { Done (act first number filing (page_at words.old)) words.old result words.new }
 {
     match filing {
-        Filing::Transfer { parcel, owner, to } => transfer(words, parcel, owner, to),
+        Filing::Transfer { parcel, owner, to } => {
+            change(words, parcel, |page| transferred(page, owner, to))
+        }
         Filing::Charge {
             parcel,
             owner,
             holder,
             amount,
-        } => charge(words, number, parcel, owner, holder, amount),
+        } => {
+            let claim = Claim::Charge(amount);
+            let entry = Entry { number, holder, claim };
+            change(words, parcel, |page| appended(page, owner, entry))
+        }
         Filing::Reserve {
             parcel,
             owner,
             holder,
-        } => reserve(words, number, parcel, owner, holder),
+        } => {
+            let claim = Claim::Reserved;
+            let entry = Entry { number, holder, claim };
+            change(words, parcel, |page| appended(page, owner, entry))
+        }
         Filing::Fill {
             parcel,
             owner,
             holder,
             number,
             amount,
-        } => fill(words, parcel, owner, holder, number, amount),
+        } => {
+            let name = EntryName { number, holder };
+            change(words, parcel, |page| filled(page, owner, name, amount))
+        }
         Filing::Release {
             parcel,
             holder,
             number,
-        } => release(words, parcel, holder, number),
+        } => {
+            let name = EntryName { number, holder };
+            change(words, parcel, |page| released(page, name))
+        }
         Filing::Postpone {
             parcel,
             holder,
             number,
-        } => postpone(words, parcel, holder, number),
+        } => {
+            let name = EntryName { number, holder };
+            change(words, parcel, |page| postponed(page, name))
+        }
         Filing::Subdivide {
             parcel,
             owner,

@@ -5,19 +5,19 @@ ghost use Rattle.entering.specs.Outcome.{reason_of};
 #[derive(Clone, Copy, PartialEq, Eq, Debug)]
 pub enum Rejection {
     // a parcel that it names is not there or not live
-    NotLive,
+    NotLive = 1,
     // a parcel's owner is not the one who signs as owner
-    NotOwner,
+    NotOwner = 2,
     // there is no entry of that number and holder; for a filling, none that is a reservation
-    NoEntry,
+    NoEntry = 3,
     // a subdivision of nothing, or of no less than all
-    Area,
+    Area = 4,
     // a merger of a parcel with itself
-    Itself,
+    Itself = 5,
     // a merger of parcels whose entries are not the same
-    Unlike,
+    Unlike = 6,
     // a 33rd entry
-    Full,
+    Full = 7,
 }
 
 #[derive(Clone, Copy, PartialEq, Eq, Debug)]
@@ -30,14 +30,6 @@ impl Rejection {
     pub fn number(self) -> u8
         ensures { result ≡ reason_of self }
     {
-        match self {
-            Rejection::NotLive => 1,
-            Rejection::NotOwner => 2,
-            Rejection::NoEntry => 3,
-            Rejection::Area => 4,
-            Rejection::Itself => 5,
-            Rejection::Unlike => 6,
-            Rejection::Full => 7,
-        }
+        self as u8
     }
 }

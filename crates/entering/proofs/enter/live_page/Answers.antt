@@ -10,5 +10,7 @@ returns c =
     let live : (page_at c.args.words.now c.args.parcel).live ≡ true = ap (λ (s : Sheet). s.live) (sym c.read_page-page.ensures) ∙ sym c.if-not-live.ensures in
     record {
       page = ap Ok c.read_page-page.ensures ∙ sym (cond-true _ _ _ live);
+      read = c.read_page-page.ensures;
+      live = live;
       within = live_within c.args.words.now c.args.parcel live;
     }
