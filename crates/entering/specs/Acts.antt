@@ -3,14 +3,10 @@
 use Rattle.std.specs.Prelude.{ℕ, cond, ◌&&◌, [], ◌∷◌, ◌++◌, length, Ok, Err, Result, ◌==◌, nat_lt}
 use Rattle.entries.specs.Order.{alike}
 use Rattle.entries.specs.Sheet.{Sheet}
-use Rattle.entries.specs.Rank.{charge, filled, has, has_reserved, owned_sheet, postponed, released, with_entries}
-use Rattle.entries.specs.declared.entry.Claim.TheVariants.{Reserved}
+use Rattle.entries.specs.Rank.{charge, filled, has, has_reserved, owned_sheet, postponed, released, reservation, with_entries}
 use Rattle.entries.specs.declared.entry.Entry.{Entry}
 use Rattle.entering.specs.declared.outcome.Rejection.{Rejection}
 use Rattle.entering.specs.declared.outcome.Rejection.TheVariants.{NotLive, NotOwner, NoEntry, Area, Itself, Unlike, Full}
-
-abbrev pub reservation : ℕ → ℕ → Entry
-reservation k h = record { number = k; holder = h; claim = Reserved }
 
 module _ {X : Type 0} where
   abbrev pub if_live : Sheet → Result X Rejection → Result X Rejection

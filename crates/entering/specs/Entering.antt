@@ -1,6 +1,7 @@
 -- Entering filing n in a register that was opened with P parcels: which pages it writes, or why it is rejected. Assumes nothing.
 use Rattle.std.specs.Prelude.{MatchBool, ◌≡◌, ℕ, ◌+◌, ◌-◌, ◌^◌, min, Bool, cond, List, [], ◌∷◌, Ok, Err, Result, nat_lt}
 use Rattle.std.specs.Result.{result_map_both}
+use denote.Ref.{MutBor}
 use Rattle.entries.specs.Sheet.{Sheet, sheet}
 use Rattle.entries.specs.declared.page.Page.{Page}
 use Rattle.entries.specs.Rank.{closed_sheet, made_sheet}
@@ -95,25 +96,21 @@ words_entered P n f ws = cond (short_of_room P n ws) ws (words_after (act (first
 abbrev pub register_entered : ℕ → ℕ → Filing → List ℕ → Register
 register_entered P n f ws = cond (short_of_room P n ws) (page_at ws) (entered P n f (page_at ws))
 
--- what entering one filing comes to, in memory with room for it: said of a result, and of an outcome
-pub record Done (a : Result (List Change) Rejection) (ws : List ℕ) (r : Result (Unit {0}) Rejection) (after : List ℕ) : Type 0 where
+-- what entering one filing makes of lent words that have room for it; they are lent on under the same name
+pub record Done (a : Result (List Change) Rejection) (before : MutBor (List ℕ)) (r : Result (Unit {0}) Rejection) (after : MutBor (List ℕ)) : Type 0 where
   pub answer : r ≡ result_map_both (λ _. tt) (λ k. k) a
-  pub words : after ≡ words_after a ws
-  pub register : page_at after ≡ register_after a (page_at ws)
-
-pub record Judged (a : Result (List Change) Rejection) (ws : List ℕ) (o : Outcome) (after : List ℕ) : Type 0 where
-  pub outcome : o ≡ verdict a
-  pub words : after ≡ words_after a ws
-  pub register : page_at after ≡ register_after a (page_at ws)
+  pub words : after.now ≡ words_after a before.now
+  pub register : page_at after.now ≡ register_after a (page_at before.now)
+  pub same : after.ghost_name ≡ before.ghost_name
 
 -- what a change of one page comes to, by an act of which only its contract is known
-pub record Acted (post : Page → Result Page Rejection → Type 0) (p : ℕ) (ws : List ℕ) (r : Result (Unit {0}) Rejection) (after : List ℕ) : Type 0 where
+pub record Acted (post : Page → Result Page Rejection → Type 0) (p : ℕ) (before : MutBor (List ℕ)) (r : Result (Unit {0}) Rejection) (after : MutBor (List ℕ)) : Type 0 where
   pub page : Page
   pub made : Result Page Rejection
-  pub was : sheet page ≡ page_at ws p
+  pub was : sheet page ≡ page_at before.now p
   pub acts : post page made
-  pub done : Done (alone p (result_map_both sheet (λ k. k) made)) ws r after
+  pub done : Done (alone p (result_map_both sheet (λ k. k) made)) before r after
 
 -- a page that is not live is not acted on
-abbrev pub Changed : (Page → Result Page Rejection → Type 0) → ℕ → List ℕ → Result (Unit {0}) Rejection → List ℕ → Type 0
-Changed post p ws r after = MatchBool (page_at ws p).live (Acted post p ws r after) (Done (Err NotLive) ws r after)
+abbrev pub Changed : (Page → Result Page Rejection → Type 0) → ℕ → MutBor (List ℕ) → Result (Unit {0}) Rejection → MutBor (List ℕ) → Type 0
+Changed post p before r after = MatchBool (page_at before.now p).live (Acted post p before r after) (Done (Err NotLive) before r after)

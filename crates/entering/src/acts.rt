@@ -61,7 +61,7 @@ pub(crate) fn divisible(page: &Page, owner: u32, area: u32) -> Result<(), Reject
     ensures { result ≡ divisible (sheet page.now) owner area (Ok tt) }
 {
     owned(page, owner)?;
-    if area == 0 || area as u64 >= page.area() {
+    if area == 0 || u64::from(area) >= page.area() {
         return Err(Rejection::Area);
     }
     Ok(())

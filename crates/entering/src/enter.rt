@@ -2,167 +2,164 @@
 ghost use Rattle.std.specs.Prelude.{◌≡◌, ◌+◌, ◌<◌, ◌≤◌, true, IfOk, Ok, OnOk};
 ghost use Rattle.std.specs.Result.{result_map_both};
 ghost use Rattle.entries.specs.Sheet.{sheet};
-ghost use Rattle.pages.specs.Register.{page_at, room};
+ghost use Rattle.pages.specs.Register.{page_at, put_kept, put_page, room};
 ghost use Rattle.filings.specs.declared.filing.Filing.TheVariants.{Subdivide, Merge};
 ghost use Rattle.entering.specs.Acts.{if_live};
-ghost use Rattle.entering.specs.Entering.{act, entering, register_entered, words_entered, Changed, Done, Judged};
+ghost use Rattle.entering.specs.Entering.{act, entering, register_entered, words_entered, Changed, Done};
 
 use crate::acts::{appended, divisible, filled, mergeable, postponed, released, transferred};
 use crate::outcome::{Outcome, Rejection};
-use entries::entry::{Claim, Entry, EntryName};
+use entries::entry::{Entry, EntryName};
 use entries::page::Page;
 use filings::filing::Filing;
 use pages::refusal::{Lent, Refusal};
 use pages::register::{pages_room, read_page, write_page};
 
-// The page of a parcel that is there and live.
-fn live_page(words: &[u64], parcel: u16) -> Result<Page, Rejection>
-    ensures page { result_map_both sheet (λ e. e) result ≡ if_live (page_at words.now parcel) (Ok (page_at words.now parcel)) }
-    ensures read { IfOk result (λ page. sheet page ≡ page_at words.now parcel) }
-    ensures live { OnOk result ((page_at words.now parcel).live ≡ true) }
-    ensures within { OnOk result (parcel < room words.now) }
-{
-    let page = read_page(words, parcel as usize);
-    if !page.live() {
-        return Err(Rejection::NotLive);
-    }
-    Ok(page)
-}
-
-// Writes what an act makes of the page of a parcel, or hands on why nothing is made.
-fn change<F: FnOnce(Page) -> Result<Page, Rejection>>(
-    words: &mut [u64],
-    parcel: u16,
-    act: F,
-) -> Result<(), Rejection>
-    requires { F.IsAlwaysCallable act }
-    ensures { Changed (F.post act) parcel words.old result words.new }
-{
-    let page = live_page(words, parcel)?;
-    let made = act(page)?;
-    write_page(words, parcel as usize, made);
-    Ok(())
-}
-
-// The parts are the parcels `first` and the next; both go on with the entries of the parcel, which is closed.
-fn subdivide(
-    words: &mut [u64],
+// The lent words while filing `number` is entered, with room for the two parcels from `first` on, which it may make.
+#[derive(Drop)]
+struct Desk<'a> {
+    words: &'a mut [u64],
     first: usize,
-    parcel: u16,
-    owner: u32,
-    area: u32,
-) -> Result<(), Rejection>
-    requires { first + 2 ≤ room words.old }
-    ensures { Done (act first 0 (Subdivide parcel owner area) (page_at words.old)) words.old result words.new }
-{
-    let page = live_page(words, parcel)?;
-    divisible(&page, owner, area)?;
-    let rest = page.area() - area as u64;
-    write_page(words, parcel as usize, page.closed());
-    write_page(words, first, page.made_of(owner, area as u64));
-    write_page(words, first + 1, page.made_of(owner, rest));
-    Ok(())
+    number: u16,
+    ghost room: { first + 2 ≤ room words.now },
 }
 
-// The whole is the parcel `first`; it goes on with the entries that both have, and both are closed.
-fn merge(
-    words: &mut [u64],
-    first: usize,
-    parcel: u16,
-    other: u16,
-    owner: u32,
-) -> Result<(), Rejection>
-    requires { first + 2 ≤ room words.old }
-    ensures { Done (act first 0 (Merge parcel other owner) (page_at words.old)) words.old result words.new }
-{
-    let page = live_page(words, parcel)?;
-    let other_page = live_page(words, other)?;
-    mergeable(parcel, other, &page, &other_page, owner)?;
-    let area = page.area().saturating_add(other_page.area());
-    write_page(words, parcel as usize, page.closed());
-    write_page(words, other as usize, other_page.closed());
-    write_page(words, first, page.made_of(owner, area));
-    Ok(())
-}
-
-fn enter_kind(words: &mut [u64], first: usize, number: u16, filing: Filing) -> Result<(), Rejection>
-    requires { first + 2 ≤ room words.old }
-    ensures { Done (act first number filing (page_at words.old)) words.old result words.new }
-{
-    match filing {
-        Filing::Transfer { parcel, owner, to } => {
-            change(words, parcel, |page| transferred(page, owner, to))
+impl Desk<'_> {
+    // The page of a parcel that is there and live.
+    fn live_page(&self, parcel: u16) -> Result<Page, Rejection>
+        ensures page { result_map_both sheet (λ e. e) result ≡ if_live (page_at self.now.words.now parcel) (Ok (page_at self.now.words.now parcel)) }
+        ensures read { IfOk result (λ page. sheet page ≡ page_at self.now.words.now parcel) }
+        ensures live { OnOk result ((page_at self.now.words.now parcel).live ≡ true) }
+        ensures within { OnOk result (parcel < room self.now.words.now) }
+    {
+        let page = read_page(self.words, parcel as usize);
+        if !page.live() {
+            return Err(Rejection::NotLive);
         }
-        Filing::Charge {
-            parcel,
-            owner,
-            holder,
-            amount,
-        } => {
-            let claim = Claim::Charge(amount);
-            let entry = Entry { number, holder, claim };
-            change(words, parcel, |page| appended(page, owner, entry))
-        }
-        Filing::Reserve {
-            parcel,
-            owner,
-            holder,
-        } => {
-            let claim = Claim::Reserved;
-            let entry = Entry { number, holder, claim };
-            change(words, parcel, |page| appended(page, owner, entry))
-        }
-        Filing::Fill {
-            parcel,
-            owner,
-            holder,
-            number,
-            amount,
-        } => {
-            let name = EntryName { number, holder };
-            change(words, parcel, |page| filled(page, owner, name, amount))
-        }
-        Filing::Release {
-            parcel,
-            holder,
-            number,
-        } => {
-            let name = EntryName { number, holder };
-            change(words, parcel, |page| released(page, name))
-        }
-        Filing::Postpone {
-            parcel,
-            holder,
-            number,
-        } => {
-            let name = EntryName { number, holder };
-            change(words, parcel, |page| postponed(page, name))
-        }
-        Filing::Subdivide {
-            parcel,
-            owner,
-            area,
-        } => subdivide(words, first, parcel, owner, area),
-        Filing::Merge {
-            parcel,
-            other,
-            owner,
-        } => merge(words, first, parcel, other, owner),
+        Ok(page)
     }
-}
 
-fn judge(words: &mut [u64], first: usize, number: u16, filing: Filing) -> Outcome
-    requires { first + 2 ≤ room words.old }
-    ensures { Judged (act first number filing (page_at words.old)) words.old result words.new }
-{
-    match enter_kind(words, first, number, filing) {
-        Ok(()) => Outcome::Entered,
-        Err(rejection) => Outcome::Rejected(rejection),
+    fn write(&mut self, parcel: usize, page: Page)
+        ensures words { self.new.words.now ≡ put_page self.old.words.now parcel (sheet page) }
+        ensures register { page_at self.new.words.now ≡ put_kept (room self.old.words.now) parcel (sheet page) (page_at self.old.words.now) }
+        ensures room { room self.new.words.now ≡ room self.old.words.now }
+        ensures same { self.new.words.ghost_name ≡ self.old.words.ghost_name }
+    {
+        write_page(self.words, parcel, page);
+    }
+
+    // Writes what an act makes of the page of a parcel, or hands on why nothing is made.
+    fn change<F: FnOnce(Page) -> Result<Page, Rejection>>(
+        &mut self,
+        parcel: u16,
+        act: F,
+    ) -> Result<(), Rejection>
+        requires { F.IsAlwaysCallable act }
+        ensures { Changed (F.post act) parcel self.old.words result self.new.words }
+    {
+        let page = self.live_page(parcel)?;
+        let made = act(page)?;
+        self.write(parcel as usize, made);
+        Ok(())
+    }
+
+    // The parts are the parcels `first` and the next; both go on with the entries of the parcel, which is closed.
+    fn subdivide(&mut self, parcel: u16, owner: u32, area: u32) -> Result<(), Rejection>
+        ensures { Done (act self.old.first 0 (Subdivide parcel owner area) (page_at self.old.words.now)) self.old.words result self.new.words }
+    {
+        let page = self.live_page(parcel)?;
+        divisible(&page, owner, area)?;
+        let first = self.first;
+        let rest = page.area() - u64::from(area);
+        self.write(parcel as usize, page.closed());
+        self.write(first, page.made_of(owner, u64::from(area)));
+        self.write(first + 1, page.made_of(owner, rest));
+        Ok(())
+    }
+
+    // The whole is the parcel `first`; it goes on with the entries that both have, and both are closed.
+    fn merge(&mut self, parcel: u16, other: u16, owner: u32) -> Result<(), Rejection>
+        ensures { Done (act self.old.first 0 (Merge parcel other owner) (page_at self.old.words.now)) self.old.words result self.new.words }
+    {
+        let page = self.live_page(parcel)?;
+        let other_page = self.live_page(other)?;
+        mergeable(parcel, other, &page, &other_page, owner)?;
+        let first = self.first;
+        let area = page.area().saturating_add(other_page.area());
+        self.write(parcel as usize, page.closed());
+        self.write(other as usize, other_page.closed());
+        self.write(first, page.made_of(owner, area));
+        Ok(())
+    }
+
+    fn enter(&mut self, filing: Filing) -> Result<(), Rejection>
+        ensures { Done (act self.old.first self.old.number filing (page_at self.old.words.now)) self.old.words result self.new.words }
+    {
+        let made_by = self.number;
+        match filing {
+            Filing::Transfer { parcel, owner, to } => {
+                self.change(parcel, |page| transferred(page, owner, to))
+            }
+            Filing::Charge {
+                parcel,
+                owner,
+                holder,
+                amount,
+            } => {
+                let entry = Entry::charge(made_by, holder, amount);
+                self.change(parcel, |page| appended(page, owner, entry))
+            }
+            Filing::Reserve {
+                parcel,
+                owner,
+                holder,
+            } => {
+                let entry = Entry::reservation(made_by, holder);
+                self.change(parcel, |page| appended(page, owner, entry))
+            }
+            Filing::Fill {
+                parcel,
+                owner,
+                holder,
+                number,
+                amount,
+            } => {
+                let name = EntryName { number, holder };
+                self.change(parcel, |page| filled(page, owner, name, amount))
+            }
+            Filing::Release {
+                parcel,
+                holder,
+                number,
+            } => {
+                let name = EntryName { number, holder };
+                self.change(parcel, |page| released(page, name))
+            }
+            Filing::Postpone {
+                parcel,
+                holder,
+                number,
+            } => {
+                let name = EntryName { number, holder };
+                self.change(parcel, |page| postponed(page, name))
+            }
+            Filing::Subdivide {
+                parcel,
+                owner,
+                area,
+            } => self.subdivide(parcel, owner, area),
+            Filing::Merge {
+                parcel,
+                other,
+                owner,
+            } => self.merge(parcel, other, owner),
+        }
     }
 }
 
 // Enters filing `number` in a register that was opened with `parcels`, or says why it is rejected and changes nothing.
 // Memory that has no room for what the filing may make is refused, and is as it was.
+#[tactic(auto, unfolding(crate::specs::Entering::outcome, crate::specs::Entering::entered))]
 pub fn enter(
     words: &mut [u64],
     parcels: u16,
@@ -177,5 +174,10 @@ pub fn enter(
     if pages_room(words) < first + 2 {
         return Err(Refusal::Short(Lent::Pages));
     }
-    Ok(judge(words, first, number, filing))
+    let mut desk = Desk {
+        words,
+        first,
+        number,
+    };
+    Ok(Outcome::from(desk.enter(filing)))
 }

@@ -1,6 +1,6 @@
 // What comes of a filing that was taken: it is entered, or rejected with the first reason that holds, and then changes nothing.
 ghost use Rattle.std.specs.Prelude.{◌≡◌};
-ghost use Rattle.entering.specs.Outcome.{reason_of};
+ghost use Rattle.entering.specs.Outcome.{outcome_of, reason_of};
 
 #[derive(Clone, Copy, PartialEq, Eq, Debug)]
 pub enum Rejection {
@@ -31,5 +31,16 @@ impl Rejection {
         ensures { result ≡ reason_of self }
     {
         self as u8
+    }
+}
+
+impl From<Result<(), Rejection>> for Outcome {
+    ghost from_gives = { λ entered outcome. outcome ≡ outcome_of entered };
+
+    fn from(entered: Result<(), Rejection>) -> Outcome {
+        match entered {
+            Ok(()) => Outcome::Entered,
+            Err(rejection) => Outcome::Rejected(rejection),
+        }
     }
 }

@@ -63,6 +63,9 @@ ahead k h es = front (is k h) es
 abbrev pub charge : ℕ → ℕ → ℕ → Entry
 charge k h m = record { number = k; holder = h; claim = Charge m }
 
+abbrev pub reservation : ℕ → ℕ → Entry
+reservation k h = record { number = k; holder = h; claim = Reserved }
+
 -- the reservation k of h is a charge of m cents, in the rank that was kept for it
 abbrev pub filled : ℕ → ℕ → ℕ → List Entry → List Entry
 filled k h m es = changed (is_reserved k h) (charge k h m) es

@@ -4,7 +4,7 @@ ghost use Rattle.entries.specs.Sheet.{sheet};
 ghost use Rattle.std.specs.Option.{option_map};
 ghost use Rattle.std.specs.Prelude.{◌≡◌};
 
-use crate::entry::{Claim, Entry, EntryName};
+use crate::entry::{Entry, EntryName};
 use crate::page::{MOST_ENTRIES, Page};
 
 impl Page {
@@ -26,11 +26,7 @@ impl Page {
         ensures { option_map sheet result ≡ filled_sheet (sheet self) name.number name.holder amount }
     {
         let place = self.find_reserved(name)?;
-        self.entries[place] = Entry {
-            number: name.number,
-            holder: name.holder,
-            claim: Claim::Charge(amount),
-        };
+        self.entries[place] = Entry::charge(name.number, name.holder, amount);
         Some(self)
     }
 

@@ -1,6 +1,6 @@
 // An entry on a parcel's page: the number of the filing that made it, who holds it, and what it claims.
 ghost use Rattle.std.specs.Prelude.{◌≡◌};
-ghost use Rattle.entries.specs.Rank.{is, is_reserved};
+ghost use Rattle.entries.specs.Rank.{charge, is, is_reserved, reservation};
 
 #[derive(Clone, Copy, PartialEq, Eq, Debug)]
 pub enum Claim {
@@ -32,6 +32,28 @@ pub const BLANK: Entry = Entry {
 };
 
 impl Entry {
+    pub fn charge(number: u16, holder: u32, amount: u64) -> Entry
+        ensures { result ≡ charge number holder amount }
+    {
+        let claim = Claim::Charge(amount);
+        Entry {
+            number,
+            holder,
+            claim,
+        }
+    }
+
+    pub fn reservation(number: u16, holder: u32) -> Entry
+        ensures { result ≡ reservation number holder }
+    {
+        let claim = Claim::Reserved;
+        Entry {
+            number,
+            holder,
+            claim,
+        }
+    }
+
     pub fn is(self, name: EntryName) -> bool
         ensures { result ≡ is name.number name.holder self }
     {

@@ -10,7 +10,8 @@ use Rattle.pages.specs.Register.{Register}
 use Rattle.filings.specs.Touches.{first_made, may_make}
 use Rattle.filings.specs.declared.filing.Filing.{Filing}
 use Rattle.filings.specs.declared.filing.Filing.TheVariants.{Transfer, Charge, Reserve, Fill, Release, Postpone, Subdivide, Merge}
-use Rattle.entering.specs.Acts.{if_live, if_owner, last, reservation}
+use Rattle.entering.specs.Acts.{if_live, if_owner, last}
+use Rattle.entries.specs.Rank.{reservation}
 use Rattle.entering.specs.Entering.{Change, alone, entered, puts, register_after, subdivided, merged}
 use Rattle.entering.specs.declared.outcome.Rejection.{Rejection}
 use Rattle.entering.specs.declared.outcome.Rejection.TheVariants.{NotLive, NotOwner, NoEntry, Area, Itself, Unlike, Full}

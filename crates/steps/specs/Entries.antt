@@ -7,7 +7,7 @@ use Rattle.entries.specs.declared.entry.Entry.{Entry}
 use Rattle.pages.specs.Register.{Register}
 use Rattle.filings.specs.declared.filing.Filing.{Filing}
 use Rattle.filings.specs.declared.filing.Filing.TheVariants.{Charge, Reserve, Fill, Release, Postpone}
-use Rattle.entering.specs.Acts.{reservation}
+use Rattle.entries.specs.Rank.{reservation}
 use Rattle.entering.specs.Entering.{entered}
 use Rattle.steps.specs.Laws.{NotMade}
 

@@ -6,7 +6,7 @@ use Rattle.entries.specs.declared.entry.Entry.{Entry}
 use Rattle.pages.specs.Register.{Register, no_page}
 use Rattle.filings.specs.declared.filing.Filing.{Filing}
 use Rattle.filings.specs.declared.filing.Filing.TheVariants.{Transfer, Charge, Reserve, Fill, Postpone, Subdivide}
-use Rattle.entering.specs.Acts.{reservation}
+use Rattle.entries.specs.Rank.{reservation}
 use Rattle.entering.specs.Entering.{entered, outcome}
 use Rattle.entering.specs.declared.outcome.Outcome.TheVariants.{Entered}
 

@@ -5,7 +5,7 @@ use Rattle.entries.specs.Sheet.{Sheet}
 use Rattle.pages.specs.Register.{Register}
 use Rattle.filings.specs.declared.filing.Filing.{Filing}
 use Rattle.filings.specs.declared.filing.Filing.TheVariants.{Transfer, Charge, Reserve, Fill, Release, Postpone, Subdivide, Merge}
-use Rattle.entering.specs.Acts.{reservation}
+use Rattle.entries.specs.Rank.{reservation}
 use Rattle.entering.specs.Entering.{capped, entered, outcome}
 use Rattle.entering.specs.declared.outcome.Outcome.TheVariants.{Entered}
 

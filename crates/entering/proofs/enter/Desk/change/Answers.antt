@@ -1,6 +1,6 @@
 -- What the act made is what is written.
 use Rattle.std.proofs.Common.{rules, Ok, Err}
-use Rattle.entering.proofs.enter.change.Goals as goal
+use Rattle.entering.proofs.enter.Desk.change.Goals as goal
 
 pub returns-in_err-made : goal.returns-in_err-made
 returns-in_err-made g c =
