@@ -14,10 +14,7 @@ pub const MOST_AMOUNT: u64 = 1_000_000_000_000_000;
 pub(crate) fn kind_of(bytes: &[u8]) -> Option<Kind>
     ensures { result ≡ kind_in bytes.now }
 {
-    if bytes.len() == 0 {
-        return None;
-    }
-    Kind::numbered(bytes[0])
+    Kind::try_from(*bytes.first()?).ok()
 }
 
 fn exactly(bytes: &[u8], long: usize) -> Option<&[u8]>
