@@ -1,9 +1,11 @@
 -- A filing that is put into its slot is kept there, and every other slot is as it was. Assumes nothing.
-use Rattle.std.proofs.Common.{◌≡◌, ℕ, ◌+◌, ◌-◌, ◌*◌, ◌/◌, ◌<◌, ◌≤◌, min, cond, eqb, ltb, List, ◌++◌, length, take, drop, replicate, IfOk, Some, None, Ok, Err, Option, Result, sym, refl, ap, ◌∙◌, ⊎_elim, arith, length-append, length-drop, length-take}
+use Rattle.std.proofs.Common.{◌≡◌, ℕ, zero, suc, ◌+◌, ◌-◌, ◌*◌, ◌/◌, ◌<◌, ◌≤◌, min, cond, eqb, ltb, List, ◌++◌, length, take, drop, replicate, get_or, Bor, MatchOption, IfOk, Some, None, Ok, Err, Option, Result, sym, refl, ap, ◌∙◌, ⊎_elim, arith, length-append, length-take}
 use borrow.Rule.Slice.PartMut.{put_mid}
-use Rattle.std.proofs.lemmas.List.{drop-drop, drop-replicate, get_or_append_left, length-replicate, length-take-le, take_all, take_at}
+use Rattle.std.proofs.lemmas.List.{drop-drop, drop-replicate, get_or_append_left, length-replicate, take_all, take_at}
 use Rattle.std.proofs.lemmas.Bool.{cases_Bool, cases_lt, cond-true, cond-false, eq-eqb, eqb-true, eqb-false, ne_eqb, le-ltb, lt-ltb}
 use Rattle.std.specs.Result.{result_ok}
+use Rattle.std.specs.Simd.{first_chunks}
+use Rattle.std.specs.Slice.{IsItemAt}
 use Rattle.pages.specs.declared.refusal.Refusal.{Refusal}
 use Rattle.pages.specs.declared.refusal.Refusal.TheVariants.{Length}
 use Rattle.pages.proofs.Swapped.{swapped, swapped_here, swapped_below, swapped_above, swapped_size}
@@ -46,13 +48,24 @@ module _ (ms : List ℕ) (n : ℕ) where
   unfolding kept_at
   none_past h = cond-false (ltb n (slots_in ms)) _ _ (le-ltb _ _ h)
 
-  pub kept_there :
-      (m : ℕ) → m ≡ 24 → n < slots_in ms → (length (take m (drop (24 * n) ms)) ≡ 24) × (kept_at ms n ≡ kept_in (take m (drop (24 * n) ms)))
-  unfolding kept_at
-  kept_there m e h = (
-    length-take-le m (drop (24 * n) ms) (simp length-drop (omega arith)) ∙ e,
-    cond-true (ltb n (slots_in ms)) _ _ (lt-ltb _ _ h) ∙ ap (λ k. kept_in (take k (drop (24 * n) ms))) (sym e),
-  )
+chunk_at : (size k n : ℕ) (xs d : List ℕ) → n < k → get_or (first_chunks size k xs) n d ≡ take size (drop (size * n) xs)
+chunk_at size zero n xs d h = absurd (omega arith)
+chunk_at size (suc k) zero xs d h = let e : 0 ≡ size * 0 = omega arith in ap (λ m. take size (drop m xs)) e
+chunk_at size (suc k) (suc n) xs d h =
+    let e : size + size * n ≡ size * suc n = omega arith in
+    chunk_at size k n (drop size xs) d (omega arith) ∙ ap (take size) (drop-drop (size * n) size xs ∙ ap (λ m. drop m xs) e)
+
+-- what `slot_at` finds
+pub found_at :
+    (ms : List ℕ) (n : ℕ) (slots : List (List ℕ)) (r : Option (Bor (List ℕ))) →
+    slots ≡ first_chunks 24 (slots_in ms) ms → length slots ≡ slots_in ms → IsItemAt slots n r →
+    MatchOption r (kept_at ms n ≡ None) (λ slot. kept_at ms n ≡ kept_in slot.now)
+unfolding kept_at
+found_at ms n slots None is size found = none_past ms n (let h = found.3 in omega arith)
+found_at ms n slots (Some slot) is size found =
+    let there : n < slots_in ms = let h = found.3.0 in omega arith in
+    cond-true (ltb n (slots_in ms)) _ _ (lt-ltb _ _ there) ∙
+    ap kept_in (sym (found.1 ∙ ap (λ l. get_or l n slot.now) is ∙ chunk_at 24 (slots_in ms) n ms slot.now there))
 
 -- WRITING
 

@@ -11,8 +11,8 @@ returns-then-number-slots_room c =
     let n = c.args.number in
     let slot = c.args.slot.now in
     let copied = ap (λ l. put_mid (24 * n) (24 * n + 24 - 24 * n) ms l) c.copy_from_slice.ensures.after in
-    let is = copied ∙ put_there ms n slot c.requires (omega arith) _ (omega arith) in
-    record { memory = is; kept = ap kept_at is ∙ kept_put ms n slot c.requires (omega arith) }
+    let is = copied ∙ put_there ms n slot (omega arith) (omega arith) _ (omega arith) in
+    record { memory = is; kept = ap kept_at is ∙ kept_put ms n slot (omega arith) (omega arith) }
 
 pub returns-else-number-slots_room : goal.returns-else-number-slots_room
 returns-else-number-slots_room c = record {
