@@ -1,16 +1,15 @@
 -- A filing that is put into its slot is kept there, and every other slot is as it was. Assumes nothing.
-use Rattle.std.proofs.Common.{◌≡◌, ℕ, zero, suc, ◌+◌, ◌-◌, ◌*◌, ◌/◌, ◌<◌, ◌≤◌, min, cond, eqb, ltb, List, ◌++◌, length, take, drop, replicate, get_or, Bor, MatchOption, IfOk, Some, None, Ok, Err, Option, Result, sym, refl, ap, ◌∙◌, ⊎_elim, arith, length-append, length-take}
+use Rattle.std.proofs.Common.{◌≡◌, ℕ, zero, suc, ◌+◌, ◌-◌, ◌*◌, ◌/◌, ◌<◌, ◌≤◌, min, cond, eqb, ltb, List, ◌++◌, length, take, drop, replicate, get_or, Bor, MatchOption, Some, None, Ok, Err, Option, sym, refl, ap, ap₂, ◌∙◌, ⊎_elim, arith, length-append, length-take}
 use borrow.Rule.Slice.PartMut.{put_mid}
-use Rattle.std.proofs.lemmas.List.{drop-drop, drop-replicate, get_or_append_left, length-replicate, take_all, take_at}
+use Rattle.std.proofs.lemmas.List.{drop-drop, drop-replicate, get_or_append_left, length-replicate, take_all, take_at, take_min}
 use Rattle.std.proofs.lemmas.Bool.{cases_Bool, cases_lt, cond-true, cond-false, eq-eqb, eqb-true, eqb-false, ne_eqb, le-ltb, lt-ltb}
 use Rattle.std.specs.Result.{result_ok}
 use Rattle.std.specs.Simd.{first_chunks}
 use Rattle.std.specs.Slice.{IsItemAt}
-use Rattle.pages.specs.declared.refusal.Refusal.{Refusal}
 use Rattle.pages.specs.declared.refusal.Refusal.TheVariants.{Length}
 use Rattle.pages.proofs.Swapped.{swapped, swapped_here, swapped_below, swapped_above, swapped_size}
 use Rattle.filings.specs.Kind.{kind_numbered, length_of}
-use Rattle.filings.specs.Keeping.{put, put_kept, slots_in, slot_at, slot_of, length_kept, kept_in, kept_at, put_slot}
+use Rattle.filings.specs.Keeping.{Admitted, put, put_kept, slots_in, slot_at, slot_of, length_kept, kept_in, kept_at, put_slot}
 use Rattle.filings.specs.Laws.{Keeping}
 use Rattle.filings.specs.Reading.{fields, kind_in, of_kind, reading}
 use Rattle.filings.specs.declared.filing.Filing.{Filing}
@@ -23,23 +22,15 @@ pub of_its_kind : (slot : List ℕ) (kind : Option Kind) → kind ≡ kind_in sl
 unfolding kept_in
 of_its_kind slot kind e = ap (λ k. result_ok (reading (take (length_kept k) slot))) e
 
-as_much : (bs : List ℕ) (n : ℕ) → n ≡ min (length bs) 24 → take n bs ≡ take 24 bs
-as_much bs n e =
-    ⊎_elim
-    (λ (h : length bs < 24). take_all n bs (omega arith) ∙ sym (take_all 24 bs (omega arith)))
-    (λ (h : 24 ≤ length bs). let full : n ≡ 24 = omega arith in ap (λ k. take k bs) full)
-    (cases_lt (length bs) 24)
-
-zeroes_left : (m n k z : ℕ) → m - n ≡ m - k → drop n (replicate m z) ≡ replicate (m - k) z
-zeroes_left m n k z e = drop-replicate n m z ∙ ap (λ j. replicate j z) e
+padding :
+    (bs : List ℕ) (size n : ℕ) → n ≡ min size (length bs) → size - n ≡ size - length bs →
+    take n bs ++ drop n (replicate size 0) ≡ take size bs ++ replicate (size - length bs) 0
+padding bs size n much left =
+    ap₂ ◌++◌ (ap (λ k. take k bs) much ∙ take_min size bs) (drop-replicate n size 0 ∙ ap (λ k. replicate k 0) left)
 
 -- what `padded` makes: as much of the bytes as goes into a slot, over zeroes
 pub padded_is : (bs xs : List ℕ) (n : ℕ) → n ≡ min (length bs) 24 → xs ≡ take n bs → xs ++ drop n (replicate 24 0) ≡ slot_of bs
-padded_is bs xs n e is =
-    let front = is ∙ as_much bs n e in
-    let left : 24 - n ≡ 24 - length bs = omega arith in
-    let back = zeroes_left 24 n (length bs) 0 left in
-    λ i. front i ++ back i
+padded_is bs xs n e is = ap (λ l. l ++ drop n (replicate 24 0)) is ∙ padding bs 24 n (omega arith) (omega arith)
 
 -- READING
 
@@ -167,9 +158,9 @@ read_back bs f e =
     ap (λ l. result_ok (reading l)) (take_at bs rest (length_of w.kind) size) ∙
     ap result_ok e
 
-pub read_whole : (bs : List ℕ) (r : Result Filing Refusal) → r ≡ reading bs → IfOk r (λ f. kept_in (slot_of bs) ≡ Some f)
-read_whole bs (Ok f) e = read_back bs f (sym e)
-read_whole bs (Err _) e = tt
+-- what `admit` gives
+pub is_admitted : (n : ℕ) (bs : List ℕ) (f : Filing) → n < 16384 → Ok f ≡ reading bs → Admitted n bs f
+is_admitted n bs f few e = record { few = few; kept = read_back bs f (sym e) }
 
 -- THE LAWS
 

@@ -35,6 +35,7 @@ pub fn filing_at(slots: &[u8], number: usize) -> Option<Filing>
     slot_at(slots, number).and_then(filing_kept)
 }
 
+#[tactic(auto, using(crate::proofs::Keeping::padded_is))]
 fn padded(bytes: &[u8]) -> [u8; SLOT_BYTES]
     ensures { result ≡ slot_of bytes.now }
 {
@@ -44,6 +45,7 @@ fn padded(bytes: &[u8]) -> [u8; SLOT_BYTES]
     slot
 }
 
+#[tactic(auto, using(crate::proofs::Keeping::put_past, crate::proofs::Keeping::kept_past))]
 fn write_slot(slots: &mut [u8], number: usize, slot: &[u8; SLOT_BYTES])
     ensures memory { slots.new ≡ put_slot slots.old number slot.now }
     ensures kept { kept_at slots.new ≡ put_kept (slots_in slots.old) number (kept_in slot.now) (kept_at slots.old) }

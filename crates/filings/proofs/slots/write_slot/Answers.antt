@@ -2,7 +2,7 @@
 use Rattle.std.proofs.Common.{◌+◌, ◌-◌, ◌*◌, ap, ◌∙◌, arith}
 use borrow.Rule.Slice.PartMut.{put_mid}
 use Rattle.filings.specs.Keeping.{kept_at}
-use Rattle.filings.proofs.Keeping.{kept_put, kept_past, put_past, put_there}
+use Rattle.filings.proofs.Keeping.{kept_put, put_there}
 use Rattle.filings.proofs.slots.write_slot.Goals as goal
 
 pub returns-then-number-slots_room : goal.returns-then-number-slots_room
@@ -13,9 +13,3 @@ returns-then-number-slots_room c =
     let copied = ap (λ l. put_mid (24 * n) (24 * n + 24 - 24 * n) ms l) c.copy_from_slice.ensures.after in
     let is = copied ∙ put_there ms n slot (omega arith) (omega arith) _ (omega arith) in
     record { memory = is; kept = ap kept_at is ∙ kept_put ms n slot (omega arith) (omega arith) }
-
-pub returns-else-number-slots_room : goal.returns-else-number-slots_room
-returns-else-number-slots_room c = record {
-  memory = put_past c.args.slots.now c.args.number c.args.slot.now (omega arith);
-  kept = kept_past c.args.slots.now c.args.number c.args.slot.now (omega arith);
-}
