@@ -69,9 +69,11 @@ module _ (ms : List ℕ) (n : ℕ) (slot : List ℕ) (size : length slot ≡ 24)
   is_swapped = cond-true (ltb n (slots_in ms)) _ _ (lt-ltb _ _ there)
 
   -- what `write_slot` does
-  pub put_there : (m : ℕ) → m ≡ 24 → put_mid (24 * n) m ms slot ≡ put_slot ms n slot
-  put_there m e =
-      ap (λ rest. take (24 * n) ms ++ (slot ++ rest)) (drop-drop m (24 * n) ms ∙ ap (λ k. drop (24 * n + k) ms) e) ∙ sym is_swapped
+  pub put_there : (m : ℕ) (copied : List ℕ) → m ≡ 24 → copied ≡ slot → put_mid (24 * n) m ms copied ≡ put_slot ms n slot
+  put_there m copied e is =
+      ap (put_mid (24 * n) m ms) is ∙
+      ap (λ rest. take (24 * n) ms ++ (slot ++ rest)) (drop-drop m (24 * n) ms ∙ ap (λ k. drop (24 * n + k) ms) e) ∙
+      sym is_swapped
 
   same_size : length (put_slot ms n slot) ≡ length ms
   same_size = ap length is_swapped ∙ swapped_size ms slot (24 * n) 24 size fits_in
@@ -108,7 +110,7 @@ module _ (ms : List ℕ) (n : ℕ) (slot : List ℕ) (size : length slot ≡ 24)
       (λ e. kept_other m (eqb-false m n e) ∙ sym (cond-false (eqb m n) _ _ e))
       (cases_Bool (eqb m n))
 
-  pub kept_put : kept_at (put_slot ms n slot) ≡ put_kept (slots_in ms) n (kept_in slot) (kept_at ms)
+  kept_put : kept_at (put_slot ms n slot) ≡ put_kept (slots_in ms) n (kept_in slot) (kept_at ms)
   kept_put = (λ i m. kept_slot m i) ∙ sym (cond-true (ltb n (slots_in ms)) _ _ (lt-ltb _ _ there))
 
 module _ (ms : List ℕ) (n : ℕ) (slot : List ℕ) (past : slots_in ms ≤ n) where
@@ -116,7 +118,7 @@ module _ (ms : List ℕ) (n : ℕ) (slot : List ℕ) (past : slots_in ms ≤ n) 
   unfolding put_slot
   put_past = sym (cond-false (ltb n (slots_in ms)) _ _ (le-ltb _ _ past))
 
-  pub kept_past : kept_at ms ≡ put_kept (slots_in ms) n (kept_in slot) (kept_at ms)
+  kept_past : kept_at ms ≡ put_kept (slots_in ms) n (kept_in slot) (kept_at ms)
   kept_past = sym (cond-false (ltb n (slots_in ms)) _ _ (le-ltb _ _ past))
 
 -- READING BACK
@@ -171,7 +173,7 @@ module _ (ms : List ℕ) (n : ℕ) (slot : List ℕ) (size : length slot ≡ 24)
   size_kept : length (put_slot ms n slot) ≡ length ms
   size_kept = ⊎_elim (same_size ms n slot size) (λ h. ap length (sym (put_past ms n slot h))) (cases_lt n (slots_in ms))
 
-  kept_all : kept_at (put_slot ms n slot) ≡ put_kept (slots_in ms) n (kept_in slot) (kept_at ms)
+  pub kept_all : kept_at (put_slot ms n slot) ≡ put_kept (slots_in ms) n (kept_in slot) (kept_at ms)
   kept_all =
       ⊎_elim (kept_put ms n slot size) (λ h. ap kept_at (sym (put_past ms n slot h)) ∙ kept_past ms n slot h) (cases_lt n (slots_in ms))
 

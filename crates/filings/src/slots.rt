@@ -22,6 +22,7 @@ fn filing_kept(slot: &[u8; SLOT_BYTES]) -> Option<Filing>
     Filing::read(&slot[..kind.length()]).ok()
 }
 
+#[tactic(auto, using(crate::proofs::Keeping::found_at))]
 fn slot_at(slots: &[u8], number: usize) -> Option<&[u8; SLOT_BYTES]>
     ensures { MatchOption result (kept_at slots.now number ≡ None) (λ slot. kept_at slots.now number ≡ kept_in slot.now) }
 {
@@ -45,7 +46,7 @@ fn padded(bytes: &[u8]) -> [u8; SLOT_BYTES]
     slot
 }
 
-#[tactic(auto, using(crate::proofs::Keeping::put_past, crate::proofs::Keeping::kept_past))]
+#[tactic(auto, using(crate::proofs::Keeping::put_there, crate::proofs::Keeping::put_past, crate::proofs::Keeping::kept_all))]
 fn write_slot(slots: &mut [u8], number: usize, slot: &[u8; SLOT_BYTES])
     ensures memory { slots.new ≡ put_slot slots.old number slot.now }
     ensures kept { kept_at slots.new ≡ put_kept (slots_in slots.old) number (kept_in slot.now) (kept_at slots.old) }
