@@ -2,7 +2,8 @@
 use Rattle.std.proofs.Common.{◌≡◌, ℕ, zero, suc, ◌+◌, ◌-◌, ◌*◌, ◌/◌, ◌<◌, ◌≤◌, min, cond, eqb, ltb, List, ◌++◌, length, take, drop, replicate, get_or, Bor, MatchOption, Some, None, Ok, Err, Option, sym, refl, ap, ap₂, ◌∙◌, ⊎_elim, arith, length-append, length-take}
 use borrow.Rule.Slice.PartMut.{put_mid}
 use Rattle.std.proofs.lemmas.List.{drop-drop, drop-replicate, get_or_append_left, length-replicate, take_all, take_at, take_min}
-use Rattle.std.proofs.lemmas.Bool.{cases_Bool, cases_lt, cond-true, cond-false, eq-eqb, eqb-true, eqb-false, ne_eqb, le-ltb, lt-ltb}
+use Rattle.std.proofs.lemmas.Bool.{cases_Bool, cases_lt, cond-true, cond-false, eq-eqb, eqb-true, ne_eqb, le-ltb, lt-ltb}
+use Rattle.std.proofs.lemmas.Bool.Decides.{nat_tests}
 use Rattle.std.specs.Result.{result_ok}
 use Rattle.std.specs.Simd.{first_chunks}
 use Rattle.std.specs.Slice.{IsItemAt}
@@ -34,10 +35,9 @@ padded_is bs xs n e is = ap (λ l. l ++ drop n (replicate 24 0)) is ∙ padding 
 
 -- READING
 
-module _ (ms : List ℕ) (n : ℕ) where
-  pub none_past : slots_in ms ≤ n → kept_at ms n ≡ None
-  unfolding kept_at
-  none_past h = cond-false (ltb n (slots_in ms)) _ _ (le-ltb _ _ h)
+none_past : (ms : List ℕ) (n : ℕ) → slots_in ms ≤ n → kept_at ms n ≡ None
+unfolding kept_at
+none_past ms n h = cond-false (ltb n (slots_in ms)) _ _ (le-ltb _ _ h)
 
 chunk_at : (size k n : ℕ) (xs d : List ℕ) → n < k → get_or (first_chunks size k xs) n d ≡ take size (drop (size * n) xs)
 chunk_at size zero n xs d h = absurd (omega arith)
@@ -66,7 +66,7 @@ module _ (ms : List ℕ) (n : ℕ) (slot : List ℕ) (size : length slot ≡ 24)
 
   is_swapped : put_slot ms n slot ≡ swapped ms slot (24 * n) 24 size fits_in
   unfolding put_slot
-  is_swapped = cond-true (ltb n (slots_in ms)) _ _ (lt-ltb _ _ there)
+  is_swapped = grind (arith, nat_tests)
 
   -- what `write_slot` does
   pub put_there : (m : ℕ) (copied : List ℕ) → m ≡ 24 → copied ≡ slot → put_mid (24 * n) m ms copied ≡ put_slot ms n slot
@@ -104,11 +104,7 @@ module _ (ms : List ℕ) (n : ℕ) (slot : List ℕ) (size : length slot ≡ 24)
   kept_other m other = room_after m ∙ ap (λ l. cond (ltb m (slots_in ms)) (kept_in l) None) (slot_other m other)
 
   kept_slot : (m : ℕ) → kept_at (put_slot ms n slot) m ≡ put n (kept_in slot) (kept_at ms) m
-  kept_slot m =
-      ⊎_elim
-      (λ e. ap (kept_at (put_slot ms n slot)) (eqb-true m n e) ∙ kept_here ∙ sym (cond-true (eqb m n) _ _ e))
-      (λ e. kept_other m (eqb-false m n e) ∙ sym (cond-false (eqb m n) _ _ e))
-      (cases_Bool (eqb m n))
+  kept_slot m = grind (arith, nat_tests, kept_here, kept_other m)
 
   kept_put : kept_at (put_slot ms n slot) ≡ put_kept (slots_in ms) n (kept_in slot) (kept_at ms)
   kept_put = (λ i m. kept_slot m i) ∙ sym (cond-true (ltb n (slots_in ms)) _ _ (lt-ltb _ _ there))
@@ -116,10 +112,10 @@ module _ (ms : List ℕ) (n : ℕ) (slot : List ℕ) (size : length slot ≡ 24)
 module _ (ms : List ℕ) (n : ℕ) (slot : List ℕ) (past : slots_in ms ≤ n) where
   pub put_past : ms ≡ put_slot ms n slot
   unfolding put_slot
-  put_past = sym (cond-false (ltb n (slots_in ms)) _ _ (le-ltb _ _ past))
+  put_past = grind (arith, nat_tests)
 
   kept_past : kept_at ms ≡ put_kept (slots_in ms) n (kept_in slot) (kept_at ms)
-  kept_past = sym (cond-false (ltb n (slots_in ms)) _ _ (le-ltb _ _ past))
+  kept_past = grind (arith, nat_tests)
 
 -- READING BACK
 
@@ -140,11 +136,11 @@ record Whole (bs : List ℕ) (o : Option Kind) : Type 0 where
 
 -- what is read has a kind, and its length
 whole : (bs : List ℕ) (f : Filing) (o : Option Kind) → of_kind o bs ≡ Ok f → Whole bs o
-whole bs f None e = absurd (let z : ◌≡◌ {A = ℕ} 0 1 = cc in omega arith)
+whole bs f None e = cc
 whole bs f (Some kind) e =
     ⊎_elim
     (λ t. record { kind = kind; is = refl; size = eqb-true _ _ t })
-    (λ t. absurd (let r = sym (cond-false _ (fields kind bs) (Err (Length (length bs))) t) ∙ e in let z : ◌≡◌ {A = ℕ} 0 1 = cc in omega arith))
+    (λ t. let r = sym (cond-false _ (fields kind bs) (Err (Length (length bs))) t) ∙ e in cc)
     (cases_Bool (eqb (length bs) (length_of kind)))
 
 pub read_back : (bs : List ℕ) (f : Filing) → reading bs ≡ Ok f → kept_in (slot_of bs) ≡ Some f
