@@ -94,14 +94,14 @@ module _ (ms : List ℕ) (n : ℕ) (slot : List ℕ) (size : length slot ≡ 24)
 
   room_after : (m : ℕ) → kept_at (put_slot ms n slot) m ≡ cond (ltb m (slots_in ms)) (kept_in (slot_at (put_slot ms n slot) m)) None
   unfolding kept_at
-  room_after m = ap (λ k. cond (ltb m k) (kept_in (slot_at (put_slot ms n slot) m)) None) same_room
+  room_after m = rw same_room
 
   kept_here : kept_at (put_slot ms n slot) n ≡ kept_in slot
-  kept_here = room_after n ∙ cond-true (ltb n (slots_in ms)) _ _ (lt-ltb _ _ there) ∙ ap kept_in slot_here
+  kept_here = grind (arith, nat_tests, room_after n, slot_here)
 
   kept_other : (m : ℕ) → (m ≡ n → ⊥) → kept_at (put_slot ms n slot) m ≡ kept_at ms m
   unfolding kept_at
-  kept_other m other = room_after m ∙ ap (λ l. cond (ltb m (slots_in ms)) (kept_in l) None) (slot_other m other)
+  kept_other m other = grind (arith, nat_tests, room_after m, slot_other m other)
 
   kept_slot : (m : ℕ) → kept_at (put_slot ms n slot) m ≡ put n (kept_in slot) (kept_at ms) m
   kept_slot m = grind (arith, nat_tests, kept_here, kept_other m)
@@ -120,7 +120,7 @@ module _ (ms : List ℕ) (n : ℕ) (slot : List ℕ) (past : slots_in ms ≤ n) 
 -- READING BACK
 
 length_fits : (kind : Kind) → (1 ≤ length_of kind) × (length_of kind ≤ 24)
-length_fits Transfer = (omega arith, omega arith)
+length_fits Transfer = grind arith
 length_fits Charge = (omega arith, omega arith)
 length_fits Reserve = (omega arith, omega arith)
 length_fits Fill = (omega arith, omega arith)
@@ -167,11 +167,10 @@ slot_size bs = simp (length-append, length-take, length-replicate) (omega arith)
 
 module _ (ms : List ℕ) (n : ℕ) (slot : List ℕ) (size : length slot ≡ 24) where
   size_kept : length (put_slot ms n slot) ≡ length ms
-  size_kept = ⊎_elim (same_size ms n slot size) (λ h. ap length (sym (put_past ms n slot h))) (cases_lt n (slots_in ms))
+  size_kept = grind (arith, nat_tests, same_size ms n slot size, put_past ms n slot)
 
   pub kept_all : kept_at (put_slot ms n slot) ≡ put_kept (slots_in ms) n (kept_in slot) (kept_at ms)
-  kept_all =
-      ⊎_elim (kept_put ms n slot size) (λ h. ap kept_at (sym (put_past ms n slot h)) ∙ kept_past ms n slot h) (cases_lt n (slots_in ms))
+  kept_all = grind (arith, nat_tests, kept_put ms n slot size, put_past ms n slot, kept_past ms n slot)
 
 pub keeping : Keeping
 keeping = record {
