@@ -19,7 +19,7 @@ use Rattle.filings.specs.declared.kind.Kind.TheVariants.{Transfer, Charge, Reser
 
 -- ONE SLOT
 
-pub of_its_kind : (slot : List ℕ) (kind : Option Kind) → kind ≡ kind_in slot → result_ok (reading (take (length_kept kind) slot)) ≡ kept_in slot
+of_its_kind : (slot : List ℕ) (kind : Option Kind) → kind ≡ kind_in slot → result_ok (reading (take (length_kept kind) slot)) ≡ kept_in slot
 unfolding kept_in
 of_its_kind slot kind e = ap (λ k. result_ok (reading (take (length_kept k) slot))) e
 
@@ -121,13 +121,13 @@ module _ (ms : List ℕ) (n : ℕ) (slot : List ℕ) (past : slots_in ms ≤ n) 
 
 length_fits : (kind : Kind) → (1 ≤ length_of kind) × (length_of kind ≤ 24)
 length_fits Transfer = grind arith
-length_fits Charge = (omega arith, omega arith)
-length_fits Reserve = (omega arith, omega arith)
-length_fits Fill = (omega arith, omega arith)
-length_fits Release = (omega arith, omega arith)
-length_fits Postpone = (omega arith, omega arith)
-length_fits Subdivide = (omega arith, omega arith)
-length_fits Merge = (omega arith, omega arith)
+length_fits Charge = grind arith
+length_fits Reserve = grind arith
+length_fits Fill = grind arith
+length_fits Release = grind arith
+length_fits Postpone = grind arith
+length_fits Subdivide = grind arith
+length_fits Merge = grind arith
 
 record Whole (bs : List ℕ) (o : Option Kind) : Type 0 where
   kind : Kind
@@ -143,7 +143,7 @@ whole bs f (Some kind) e =
     (λ t. let r = sym (cond-false _ (fields kind bs) (Err (Length (length bs))) t) ∙ e in cc)
     (cases_Bool (eqb (length bs) (length_of kind)))
 
-pub read_back : (bs : List ℕ) (f : Filing) → reading bs ≡ Ok f → kept_in (slot_of bs) ≡ Some f
+read_back : (bs : List ℕ) (f : Filing) → reading bs ≡ Ok f → kept_in (slot_of bs) ≡ Some f
 read_back bs f e =
     let w = whole bs f (kind_in bs) e in
     let short = length_fits w.kind in
