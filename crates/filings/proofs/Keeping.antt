@@ -1,14 +1,16 @@
 -- A filing that is put into its slot is kept there, and every other slot is as it was. Assumes nothing.
-use Rattle.std.proofs.Common.{◌≡◌, ℕ, ◌+◌, ◌-◌, ◌*◌, ◌/◌, ◌<◌, ◌≤◌, min, cond, eqb, ltb, List, ◌++◌, length, take, drop, replicate, IfOk, Some, None, Ok, Err, Option, Result, sym, refl, ap, ◌∙◌, ⊎_elim, arith, length-append, length-drop, length-take}
+use Rattle.std.proofs.Common.{◌≡◌, ℕ, zero, suc, ◌+◌, ◌-◌, ◌*◌, ◌/◌, ◌<◌, ◌≤◌, min, cond, eqb, ltb, List, ◌++◌, length, take, drop, replicate, get_or, Bor, MatchOption, Some, None, Ok, Err, Option, sym, refl, ap, ap₂, ◌∙◌, ⊎_elim, arith, length-append, length-take}
 use borrow.Rule.Slice.PartMut.{put_mid}
-use Rattle.std.proofs.lemmas.List.{drop-drop, drop-replicate, get_or_append_left, length-replicate, length-take-le, take_all, take_at}
-use Rattle.std.proofs.lemmas.Bool.{cases_Bool, cases_lt, cond-true, cond-false, eq-eqb, eqb-true, eqb-false, ne_eqb, le-ltb, lt-ltb}
+use Rattle.std.proofs.lemmas.List.{drop-drop, drop-replicate, get_or_append_left, length-replicate, take_all, take_at, take_min}
+use Rattle.std.proofs.lemmas.Bool.{cases_Bool, cases_lt, cond-true, cond-false, eq-eqb, eqb-true, ne_eqb, le-ltb, lt-ltb}
+use Rattle.std.proofs.lemmas.Bool.Decides.{nat_tests}
 use Rattle.std.specs.Result.{result_ok}
-use Rattle.pages.specs.declared.refusal.Refusal.{Refusal}
+use Rattle.std.specs.Simd.{first_chunks}
+use Rattle.std.specs.Slice.{IsItemAt}
 use Rattle.pages.specs.declared.refusal.Refusal.TheVariants.{Length}
 use Rattle.pages.proofs.Swapped.{swapped, swapped_here, swapped_below, swapped_above, swapped_size}
 use Rattle.filings.specs.Kind.{kind_numbered, length_of}
-use Rattle.filings.specs.Keeping.{put, put_kept, slots_in, slot_at, slot_of, length_kept, kept_in, kept_at, put_slot}
+use Rattle.filings.specs.Keeping.{Admitted, put, put_kept, slots_in, slot_at, slot_of, length_kept, kept_in, kept_at, put_slot}
 use Rattle.filings.specs.Laws.{Keeping}
 use Rattle.filings.specs.Reading.{fields, kind_in, of_kind, reading}
 use Rattle.filings.specs.declared.filing.Filing.{Filing}
@@ -17,42 +19,44 @@ use Rattle.filings.specs.declared.kind.Kind.TheVariants.{Transfer, Charge, Reser
 
 -- ONE SLOT
 
-pub of_its_kind : (slot : List ℕ) (kind : Option Kind) → kind ≡ kind_in slot → result_ok (reading (take (length_kept kind) slot)) ≡ kept_in slot
+of_its_kind : (slot : List ℕ) (kind : Option Kind) → kind ≡ kind_in slot → result_ok (reading (take (length_kept kind) slot)) ≡ kept_in slot
 unfolding kept_in
 of_its_kind slot kind e = ap (λ k. result_ok (reading (take (length_kept k) slot))) e
 
-as_much : (bs : List ℕ) (n : ℕ) → n ≡ min (length bs) 24 → take n bs ≡ take 24 bs
-as_much bs n e =
-    ⊎_elim
-    (λ (h : length bs < 24). take_all n bs (omega arith) ∙ sym (take_all 24 bs (omega arith)))
-    (λ (h : 24 ≤ length bs). let full : n ≡ 24 = omega arith in ap (λ k. take k bs) full)
-    (cases_lt (length bs) 24)
-
-zeroes_left : (m n k z : ℕ) → m - n ≡ m - k → drop n (replicate m z) ≡ replicate (m - k) z
-zeroes_left m n k z e = drop-replicate n m z ∙ ap (λ j. replicate j z) e
+padding :
+    (bs : List ℕ) (size n : ℕ) → n ≡ min size (length bs) → size - n ≡ size - length bs →
+    take n bs ++ drop n (replicate size 0) ≡ take size bs ++ replicate (size - length bs) 0
+padding bs size n much left =
+    ap₂ ◌++◌ (ap (λ k. take k bs) much ∙ take_min size bs) (drop-replicate n size 0 ∙ ap (λ k. replicate k 0) left)
 
 -- what `padded` makes: as much of the bytes as goes into a slot, over zeroes
 pub padded_is : (bs xs : List ℕ) (n : ℕ) → n ≡ min (length bs) 24 → xs ≡ take n bs → xs ++ drop n (replicate 24 0) ≡ slot_of bs
-padded_is bs xs n e is =
-    let front = is ∙ as_much bs n e in
-    let left : 24 - n ≡ 24 - length bs = omega arith in
-    let back = zeroes_left 24 n (length bs) 0 left in
-    λ i. front i ++ back i
+padded_is bs xs n e is = ap (λ l. l ++ drop n (replicate 24 0)) is ∙ padding bs 24 n (omega arith) (omega arith)
 
 -- READING
 
-module _ (ms : List ℕ) (n : ℕ) where
-  pub none_past : slots_in ms ≤ n → kept_at ms n ≡ None
-  unfolding kept_at
-  none_past h = cond-false (ltb n (slots_in ms)) _ _ (le-ltb _ _ h)
+none_past : (ms : List ℕ) (n : ℕ) → slots_in ms ≤ n → kept_at ms n ≡ None
+unfolding kept_at
+none_past ms n h = cond-false (ltb n (slots_in ms)) _ _ (le-ltb _ _ h)
 
-  pub kept_there :
-      (m : ℕ) → m ≡ 24 → n < slots_in ms → (length (take m (drop (24 * n) ms)) ≡ 24) × (kept_at ms n ≡ kept_in (take m (drop (24 * n) ms)))
-  unfolding kept_at
-  kept_there m e h = (
-    length-take-le m (drop (24 * n) ms) (simp length-drop (omega arith)) ∙ e,
-    cond-true (ltb n (slots_in ms)) _ _ (lt-ltb _ _ h) ∙ ap (λ k. kept_in (take k (drop (24 * n) ms))) (sym e),
-  )
+chunk_at : (size k n : ℕ) (xs d : List ℕ) → n < k → get_or (first_chunks size k xs) n d ≡ take size (drop (size * n) xs)
+chunk_at size zero n xs d h = absurd (omega arith)
+chunk_at size (suc k) zero xs d h = let e : 0 ≡ size * 0 = omega arith in ap (λ m. take size (drop m xs)) e
+chunk_at size (suc k) (suc n) xs d h =
+    let e : size + size * n ≡ size * suc n = omega arith in
+    chunk_at size k n (drop size xs) d (omega arith) ∙ ap (take size) (drop-drop (size * n) size xs ∙ ap (λ m. drop m xs) e)
+
+-- what `slot_at` finds
+pub found_at :
+    (ms : List ℕ) (n : ℕ) (slots : List (List ℕ)) (r : Option (Bor (List ℕ))) →
+    slots ≡ first_chunks 24 (slots_in ms) ms → length slots ≡ slots_in ms → IsItemAt slots n r →
+    MatchOption r (kept_at ms n ≡ None) (λ slot. kept_at ms n ≡ kept_in slot.now)
+unfolding kept_at
+found_at ms n slots None is size found = none_past ms n (let h = found.3 in omega arith)
+found_at ms n slots (Some slot) is size found =
+    let there : n < slots_in ms = let h = found.3.0 in omega arith in
+    cond-true (ltb n (slots_in ms)) _ _ (lt-ltb _ _ there) ∙
+    ap kept_in (sym (found.1 ∙ ap (λ l. get_or l n slot.now) is ∙ chunk_at 24 (slots_in ms) n ms slot.now there))
 
 -- WRITING
 
@@ -62,12 +66,14 @@ module _ (ms : List ℕ) (n : ℕ) (slot : List ℕ) (size : length slot ≡ 24)
 
   is_swapped : put_slot ms n slot ≡ swapped ms slot (24 * n) 24 size fits_in
   unfolding put_slot
-  is_swapped = cond-true (ltb n (slots_in ms)) _ _ (lt-ltb _ _ there)
+  is_swapped = grind (arith, nat_tests)
 
   -- what `write_slot` does
-  pub put_there : (m : ℕ) → m ≡ 24 → put_mid (24 * n) m ms slot ≡ put_slot ms n slot
-  put_there m e =
-      ap (λ rest. take (24 * n) ms ++ (slot ++ rest)) (drop-drop m (24 * n) ms ∙ ap (λ k. drop (24 * n + k) ms) e) ∙ sym is_swapped
+  pub put_there : (m : ℕ) (copied : List ℕ) → m ≡ 24 → copied ≡ slot → put_mid (24 * n) m ms copied ≡ put_slot ms n slot
+  put_there m copied e is =
+      ap (put_mid (24 * n) m ms) is ∙
+      ap (λ rest. take (24 * n) ms ++ (slot ++ rest)) (drop-drop m (24 * n) ms ∙ ap (λ k. drop (24 * n + k) ms) e) ∙
+      sym is_swapped
 
   same_size : length (put_slot ms n slot) ≡ length ms
   same_size = ap length is_swapped ∙ swapped_size ms slot (24 * n) 24 size fits_in
@@ -88,44 +94,40 @@ module _ (ms : List ℕ) (n : ℕ) (slot : List ℕ) (size : length slot ≡ 24)
 
   room_after : (m : ℕ) → kept_at (put_slot ms n slot) m ≡ cond (ltb m (slots_in ms)) (kept_in (slot_at (put_slot ms n slot) m)) None
   unfolding kept_at
-  room_after m = ap (λ k. cond (ltb m k) (kept_in (slot_at (put_slot ms n slot) m)) None) same_room
+  room_after m = rw same_room
 
   kept_here : kept_at (put_slot ms n slot) n ≡ kept_in slot
-  kept_here = room_after n ∙ cond-true (ltb n (slots_in ms)) _ _ (lt-ltb _ _ there) ∙ ap kept_in slot_here
+  kept_here = grind (arith, nat_tests, room_after n, slot_here)
 
   kept_other : (m : ℕ) → (m ≡ n → ⊥) → kept_at (put_slot ms n slot) m ≡ kept_at ms m
   unfolding kept_at
-  kept_other m other = room_after m ∙ ap (λ l. cond (ltb m (slots_in ms)) (kept_in l) None) (slot_other m other)
+  kept_other m other = grind (arith, nat_tests, room_after m, slot_other m other)
 
   kept_slot : (m : ℕ) → kept_at (put_slot ms n slot) m ≡ put n (kept_in slot) (kept_at ms) m
-  kept_slot m =
-      ⊎_elim
-      (λ e. ap (kept_at (put_slot ms n slot)) (eqb-true m n e) ∙ kept_here ∙ sym (cond-true (eqb m n) _ _ e))
-      (λ e. kept_other m (eqb-false m n e) ∙ sym (cond-false (eqb m n) _ _ e))
-      (cases_Bool (eqb m n))
+  kept_slot m = grind (arith, nat_tests, kept_here, kept_other m)
 
-  pub kept_put : kept_at (put_slot ms n slot) ≡ put_kept (slots_in ms) n (kept_in slot) (kept_at ms)
+  kept_put : kept_at (put_slot ms n slot) ≡ put_kept (slots_in ms) n (kept_in slot) (kept_at ms)
   kept_put = (λ i m. kept_slot m i) ∙ sym (cond-true (ltb n (slots_in ms)) _ _ (lt-ltb _ _ there))
 
 module _ (ms : List ℕ) (n : ℕ) (slot : List ℕ) (past : slots_in ms ≤ n) where
   pub put_past : ms ≡ put_slot ms n slot
   unfolding put_slot
-  put_past = sym (cond-false (ltb n (slots_in ms)) _ _ (le-ltb _ _ past))
+  put_past = grind (arith, nat_tests)
 
-  pub kept_past : kept_at ms ≡ put_kept (slots_in ms) n (kept_in slot) (kept_at ms)
-  kept_past = sym (cond-false (ltb n (slots_in ms)) _ _ (le-ltb _ _ past))
+  kept_past : kept_at ms ≡ put_kept (slots_in ms) n (kept_in slot) (kept_at ms)
+  kept_past = grind (arith, nat_tests)
 
 -- READING BACK
 
 length_fits : (kind : Kind) → (1 ≤ length_of kind) × (length_of kind ≤ 24)
-length_fits Transfer = (omega arith, omega arith)
-length_fits Charge = (omega arith, omega arith)
-length_fits Reserve = (omega arith, omega arith)
-length_fits Fill = (omega arith, omega arith)
-length_fits Release = (omega arith, omega arith)
-length_fits Postpone = (omega arith, omega arith)
-length_fits Subdivide = (omega arith, omega arith)
-length_fits Merge = (omega arith, omega arith)
+length_fits Transfer = grind arith
+length_fits Charge = grind arith
+length_fits Reserve = grind arith
+length_fits Fill = grind arith
+length_fits Release = grind arith
+length_fits Postpone = grind arith
+length_fits Subdivide = grind arith
+length_fits Merge = grind arith
 
 record Whole (bs : List ℕ) (o : Option Kind) : Type 0 where
   kind : Kind
@@ -134,14 +136,14 @@ record Whole (bs : List ℕ) (o : Option Kind) : Type 0 where
 
 -- what is read has a kind, and its length
 whole : (bs : List ℕ) (f : Filing) (o : Option Kind) → of_kind o bs ≡ Ok f → Whole bs o
-whole bs f None e = absurd (let z : ◌≡◌ {A = ℕ} 0 1 = cc in omega arith)
+whole bs f None e = cc
 whole bs f (Some kind) e =
     ⊎_elim
     (λ t. record { kind = kind; is = refl; size = eqb-true _ _ t })
-    (λ t. absurd (let r = sym (cond-false _ (fields kind bs) (Err (Length (length bs))) t) ∙ e in let z : ◌≡◌ {A = ℕ} 0 1 = cc in omega arith))
+    (λ t. let r = sym (cond-false _ (fields kind bs) (Err (Length (length bs))) t) ∙ e in cc)
     (cases_Bool (eqb (length bs) (length_of kind)))
 
-pub read_back : (bs : List ℕ) (f : Filing) → reading bs ≡ Ok f → kept_in (slot_of bs) ≡ Some f
+read_back : (bs : List ℕ) (f : Filing) → reading bs ≡ Ok f → kept_in (slot_of bs) ≡ Some f
 read_back bs f e =
     let w = whole bs f (kind_in bs) e in
     let short = length_fits w.kind in
@@ -154,9 +156,9 @@ read_back bs f e =
     ap (λ l. result_ok (reading l)) (take_at bs rest (length_of w.kind) size) ∙
     ap result_ok e
 
-pub read_whole : (bs : List ℕ) (r : Result Filing Refusal) → r ≡ reading bs → IfOk r (λ f. kept_in (slot_of bs) ≡ Some f)
-read_whole bs (Ok f) e = read_back bs f (sym e)
-read_whole bs (Err _) e = tt
+-- what `admit` gives
+pub is_admitted : (n : ℕ) (bs : List ℕ) (f : Filing) → n < 16384 → Ok f ≡ reading bs → Admitted n bs f
+is_admitted n bs f few e = record { few = few; kept = read_back bs f (sym e) }
 
 -- THE LAWS
 
@@ -165,11 +167,10 @@ slot_size bs = simp (length-append, length-take, length-replicate) (omega arith)
 
 module _ (ms : List ℕ) (n : ℕ) (slot : List ℕ) (size : length slot ≡ 24) where
   size_kept : length (put_slot ms n slot) ≡ length ms
-  size_kept = ⊎_elim (same_size ms n slot size) (λ h. ap length (sym (put_past ms n slot h))) (cases_lt n (slots_in ms))
+  size_kept = grind (arith, nat_tests, same_size ms n slot size, put_past ms n slot)
 
-  kept_all : kept_at (put_slot ms n slot) ≡ put_kept (slots_in ms) n (kept_in slot) (kept_at ms)
-  kept_all =
-      ⊎_elim (kept_put ms n slot size) (λ h. ap kept_at (sym (put_past ms n slot h)) ∙ kept_past ms n slot h) (cases_lt n (slots_in ms))
+  pub kept_all : kept_at (put_slot ms n slot) ≡ put_kept (slots_in ms) n (kept_in slot) (kept_at ms)
+  kept_all = grind (arith, nat_tests, kept_put ms n slot size, put_past ms n slot, kept_past ms n slot)
 
 pub keeping : Keeping
 keeping = record {

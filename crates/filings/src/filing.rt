@@ -1,5 +1,5 @@
 // A filing: what is asked of the register. `number` is that of the filing that made the entry which is meant.
-#[derive(Clone, Copy)]
+#[derive(Clone, Copy, PartialEq, Eq, Debug)]
 pub enum Filing {
     Transfer {
         parcel: u16,

@@ -1,5 +1,7 @@
 // A filing read from its bytes: its kind, then its fields, low byte first.
 ghost use Rattle.std.specs.Prelude.{◌≡◌, length, MatchOption, ◌≢◌};
+ghost use Rattle.std.specs.Bool.{then_some};
+ghost use Rattle.std.specs.Ordering.{partial_le};
 ghost use Rattle.pages.specs.Bytes.{four};
 ghost use Rattle.filings.specs.Reading.{at_most, eight, fields, kind_in, reading};
 
@@ -14,20 +16,19 @@ pub const MOST_AMOUNT: u64 = 1_000_000_000_000_000;
 pub(crate) fn kind_of(bytes: &[u8]) -> Option<Kind>
     ensures { result ≡ kind_in bytes.now }
 {
-    if bytes.len() == 0 {
-        return None;
-    }
-    Kind::numbered(bytes[0])
+    Kind::try_from(*bytes.first()?).ok()
 }
 
 fn exactly(bytes: &[u8], long: usize) -> Option<&[u8]>
     ensures { MatchOption result (length bytes.now ≢ long) (λ body. (body.now ≡ bytes.now) × (length bytes.now ≡ long)) }
 {
-    if bytes.len() == long {
-        Some(bytes)
-    } else {
-        None
-    }
+    (bytes.len() == long).then_some(bytes)
+}
+
+fn at_most<T: PartialOrd + Copy>(value: T, most: T) -> Option<T>
+    ensures { result ≡ then_some (partial_le T.partial_cmp value most) value }
+{
+    (value <= most).then_some(value)
 }
 
 // Low half first, as all numbers; no offset in a filing needs more than a byte.
@@ -41,19 +42,7 @@ fn eight_at(bytes: &[u8], at: u8) -> u64
 fn amount_at(bytes: &[u8], at: u8) -> Option<u64>
     ensures { result ≡ at_most 1000000000000000 (eight bytes.now at) }
 {
-    let amount = eight_at(bytes, at);
-    if amount > MOST_AMOUNT {
-        None
-    } else {
-        Some(amount)
-    }
-}
-
-fn area_at(bytes: &[u8], at: u8) -> Option<u32>
-    ensures { result ≡ at_most 1000000000 (four bytes.now at) }
-{
-    let area = four_at(bytes, at as u32);
-    if area > MOST_AREA { None } else { Some(area) }
+    at_most(eight_at(bytes, at), MOST_AMOUNT)
 }
 
 // Who signs, and the other person of a filing that has two.
@@ -97,7 +86,7 @@ fn fill_in(body: &[u8]) -> Result<Filing, Refusal>
 fn subdivision_in(body: &[u8]) -> Result<Filing, Refusal>
     ensures { result ≡ fields Kind.Subdivide body.now }
 {
-    let Some(area) = area_at(body, 7) else {
+    let Some(area) = at_most(four_at(body, 7), MOST_AREA) else {
         return Err(Refusal::Amount(7));
     };
     Ok(Filing::Subdivide {

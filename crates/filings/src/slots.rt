@@ -1,5 +1,5 @@
 // Filings in lent bytes: a slot to each, with its bytes as they came in, then zeroes.
-ghost use Rattle.std.specs.Prelude.{◌≡◌, length, None, MatchOption};
+ghost use Rattle.std.specs.Prelude.{◌≡◌, None, MatchOption};
 ghost use Rattle.filings.specs.Keeping.{kept_at, kept_in, put_kept, put_slot, slot_of, slots_in};
 
 use crate::filing::Filing;
@@ -14,36 +14,29 @@ pub fn slots_room(slots: &[u8]) -> usize
 }
 
 // Whatever the slot holds: what is no filing is none.
-fn filing_kept(slot: &[u8]) -> Option<Filing>
-    requires { length slot.now ≡ 24 }
+#[tactic(auto, unfolding(crate::specs::Keeping::kept_in))]
+fn filing_kept(slot: &[u8; SLOT_BYTES]) -> Option<Filing>
     ensures { result ≡ kept_in slot.now }
 {
-    let Some(kind) = kind_of(slot) else {
-        return None;
-    };
+    let kind = kind_of(slot)?;
     Filing::read(&slot[..kind.length()]).ok()
 }
 
-fn slot_at(slots: &[u8], number: usize) -> Option<&[u8]>
-    ensures { MatchOption result (kept_at slots.now number ≡ None) (λ slot. (length slot.now ≡ 24) × (kept_at slots.now number ≡ kept_in slot.now)) }
+#[tactic(auto, using(crate::proofs::Keeping::found_at))]
+fn slot_at(slots: &[u8], number: usize) -> Option<&[u8; SLOT_BYTES]>
+    ensures { MatchOption result (kept_at slots.now number ≡ None) (λ slot. kept_at slots.now number ≡ kept_in slot.now) }
 {
-    if number >= slots_room(slots) {
-        return None;
-    }
-    let start = SLOT_BYTES * number;
-    Some(&slots[start..start + SLOT_BYTES])
+    slots.as_chunks::<SLOT_BYTES>().0.get(number)
 }
 
 // The filing under a number, and none past the end of the memory.
 pub fn filing_at(slots: &[u8], number: usize) -> Option<Filing>
     ensures { result ≡ kept_at slots.now number }
 {
-    let Some(slot) = slot_at(slots, number) else {
-        return None;
-    };
-    filing_kept(slot)
+    slot_at(slots, number).and_then(filing_kept)
 }
 
+#[tactic(auto, using(crate::proofs::Keeping::padded_is))]
 fn padded(bytes: &[u8]) -> [u8; SLOT_BYTES]
     ensures { result ≡ slot_of bytes.now }
 {
@@ -53,8 +46,8 @@ fn padded(bytes: &[u8]) -> [u8; SLOT_BYTES]
     slot
 }
 
-fn write_slot(slots: &mut [u8], number: usize, slot: &[u8])
-    requires { length slot.now ≡ 24 }
+#[tactic(auto, using(crate::proofs::Keeping::put_there, crate::proofs::Keeping::put_past, crate::proofs::Keeping::kept_all))]
+fn write_slot(slots: &mut [u8], number: usize, slot: &[u8; SLOT_BYTES])
     ensures memory { slots.new ≡ put_slot slots.old number slot.now }
     ensures kept { kept_at slots.new ≡ put_kept (slots_in slots.old) number (kept_in slot.now) (kept_at slots.old) }
 {

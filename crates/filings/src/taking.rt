@@ -1,6 +1,6 @@
 // A filing comes in: memory first, then its bytes, then how many there are; what is refused leaves all as it was.
-ghost use Rattle.std.specs.Prelude.{◌≡◌, IfOk, Some};
-ghost use Rattle.filings.specs.Keeping.{Admitted, admitted, kept_after, kept_at, kept_in, memory_after, slot_of, taking};
+ghost use Rattle.std.specs.Prelude.{◌≡◌, IfOk};
+ghost use Rattle.filings.specs.Keeping.{Admitted, admitted, kept_after, kept_at, memory_after, taking};
 ghost use Rattle.filings.specs.Reading.{reading};
 
 use crate::filing::Filing;
@@ -9,20 +9,12 @@ use pages::refusal::{Lent, Refusal};
 
 pub const MOST_FILINGS: u16 = 16_384;
 
-// What is read is just what a slot with these bytes keeps.
-fn read_whole(bytes: &[u8]) -> Result<Filing, Refusal>
-    ensures answer { result ≡ reading bytes.now }
-    ensures slot { IfOk result (λ f. kept_in (slot_of bytes.now) ≡ Some f) }
-{
-    Filing::read(bytes)
-}
-
 // The filing in these bytes, where so many came in before it; its slot will keep just that.
 pub fn admit(count: u16, bytes: &[u8]) -> Result<Filing, Refusal>
     ensures answer { result ≡ admitted count (reading bytes.now) }
     ensures slot { IfOk result (Admitted count bytes.now) }
 {
-    let filing = read_whole(bytes)?;
+    let filing = Filing::read(bytes)?;
     if count >= MOST_FILINGS {
         return Err(Refusal::Full);
     }
