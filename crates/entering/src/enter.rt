@@ -11,6 +11,7 @@ use crate::acts::{appended, divisible, filled, mergeable, postponed, released, t
 use crate::outcome::{Outcome, Rejection};
 use entries::entry::{Entry, EntryName};
 use entries::page::Page;
+use filings::filed::Filed;
 use filings::filing::Filing;
 use pages::refusal::{Lent, Refusal};
 use pages::register::{pages_room, read_page, write_page};
@@ -157,27 +158,23 @@ impl Desk<'_> {
     }
 }
 
-// Enters filing `number` in a register that was opened with `parcels`, or says why it is rejected and changes nothing.
+// Enters a filing, or says why it is rejected and changes nothing.
 // Memory that has no room for what the filing may make is refused, and is as it was.
 #[tactic(auto, unfolding(crate::specs::Entering::outcome, crate::specs::Entering::entered))]
-pub fn enter(
-    words: &mut [u64],
-    parcels: u16,
-    number: u16,
-    filing: Filing,
-) -> Result<Outcome, Refusal>
-    ensures answer { result ≡ entering parcels number filing words.old }
-    ensures words { words.new ≡ words_entered parcels number filing words.old }
-    ensures register { page_at words.new ≡ register_entered parcels number filing words.old }
+pub fn enter(words: &mut [u64], filed: Filed) -> Result<Outcome, Refusal>
+    ensures answer { result ≡ entering filed.parcels filed.number filed.filing words.old }
+    ensures words { words.new ≡ words_entered filed.parcels filed.number filed.filing words.old }
+    ensures register { page_at words.new ≡ register_entered filed.parcels filed.number filed.filing words.old }
 {
-    let first = parcels as usize + 2 * number as usize;
+    let first = filed.first_made() as usize;
     if pages_room(words) < first + 2 {
         return Err(Refusal::Short(Lent::Pages));
     }
+    let number = filed.number;
     let mut desk = Desk {
         words,
         first,
         number,
     };
-    Ok(Outcome::from(desk.enter(filing)))
+    Ok(Outcome::from(desk.enter(filed.filing)))
 }
