@@ -15,10 +15,9 @@ module _ {Page Act Result : Type 0} (w : Acts Page Act Result) (local : Local w)
   -- WHAT IS READY IS WORKED
 
   way_clear : (d : Desk Page Act Result) (n : ℕ) (a : Act) (i k : ℕ) → ((j : ℕ) → i ≤ j → j < i + k → in_way w d n a j ≡ false) → way_from w d n a i k ≡ None
-  unfolding way_from
   way_clear d n a i zero clear = refl
   way_clear d n a i (suc k) clear =
-      cond-false (in_way w d n a i) _ _ (clear i (omega arith) (omega arith)) ∙ way_clear d n a (suc i) k (λ j l m. clear j (omega arith) (omega arith))
+      cond-false (in_way w d n a i) _ _ (clear i (omega arith) (omega arith)) ∙ way_clear d n a (i + 1) k (λ j l m. clear j (omega arith) (omega arith))
 
   pub ready_if : (d : Desk Page Act Result) (n : ℕ) (a : Act) → Ready w local d n a → asked w d n ≡ ready a
   unfolding asked
@@ -39,14 +38,13 @@ module _ {Page Act Result : Type 0} (w : Acts Page Act Result) (local : Local w)
   never_stuck d n a is_there still_open first_one = ready_if d n a (record { there = is_there; is_open = still_open; clear = λ i l. ap (λ t. t && shares_with w n a i (slice_get d.filed i)) (first_one i l) })
 
   first_ready : (d : Desk Page Act Result) (n : ℕ) (a : Act) → slice_get d.filed n ≡ Some a → FirstOpen d n → (i k : ℕ) → i ≤ n → n < i + k → ready_from w d i k ≡ Some n
-  unfolding ready_from
   first_ready d n a is_there lead i zero l m = absurd (omega arith)
   first_ready d n a is_there lead i (suc k) l m =
       ⊎_elim
       (λ (here : i ≡ n).
       cond-true (is_ready w (asked w d i)) _ _ (ap (λ j. is_ready w (asked w d j)) here ∙ ap (is_ready w) (never_stuck d n a is_there lead.is_open lead.before)) ∙ ap Some here)
       (λ (other : i ≡ n → ⊥).
-      cond-false (is_ready w (asked w d i)) _ _ (shut_not_ready d i (lead.before i (omega arith))) ∙ first_ready d n a is_there lead (suc i) k (omega arith) (omega arith))
+      cond-false (is_ready w (asked w d i)) _ _ (shut_not_ready d i (lead.before i (omega arith))) ∙ first_ready d n a is_there lead (i + 1) k (omega arith) (omega arith))
       (cases_eq i n)
 
   pub worked_if : (d : Desk Page Act Result) (n : ℕ) (a : Act) → Ready w local d n a → work w d n ≡ worked_on w d n a

@@ -22,16 +22,15 @@ module _ {Page Act Result : Type 0} (w : Acts Page Act Result) (local : Local w)
 
   -- nothing in the way below
   pub way_none : (d : Desk Page Act Result) (n : ℕ) (a : Act) (i k : ℕ) → way_from w d n a i k ≡ None → (j : ℕ) → i ≤ j → j < i + k → in_way w d n a j ≡ false
-  unfolding way_from
   way_none d n a i zero e j l m = absurd (omega arith)
   way_none d n a i (suc k) e j l m =
       ⊎_elim
-      (λ t. absurd (let s = cond-true (in_way w d n a i) (Some i) (way_from w d n a (suc i) k) t in let z : ◌≡◌ {A = ℕ} 0 1 = cc in omega arith))
+      (λ t. absurd (let s = cond-true (in_way w d n a i) (Some i) (way_from w d n a (i + 1) k) t in let z : ◌≡◌ {A = ℕ} 0 1 = cc in omega arith))
       (λ f.
       ⊎_elim
       (λ (at : j ≡ i). ap (in_way w d n a) at ∙ f)
       (λ (other : j ≡ i → ⊥).
-      way_none d n a (suc i) k (sym (cond-false (in_way w d n a i) (Some i) (way_from w d n a (suc i) k) f) ∙ e) j (omega arith) (omega arith))
+      way_none d n a (i + 1) k (sym (cond-false (in_way w d n a i) (Some i) (way_from w d n a (i + 1) k) f) ∙ e) j (omega arith) (omega arith))
       (cases_eq j i))
       (cases_Bool (in_way w d n a i))
 

@@ -1,6 +1,6 @@
 -- The clerks' desk: what was filed, which of it is open, and the rule by which it is worked. Assumes nothing.
 use Rattle.std.specs.Prelude.{◌≡◌, ℕ, zero, suc, ◌<◌, Bool, true, false, cond, ◌&&◌, List, [], ◌∷◌, ◌++◌, length, replicate, Some, None, Option, slice_set}
-use Rattle.std.specs.List.{slice_get}
+use Rattle.std.specs.List.{find, range_with_len, slice_get}
 use Rattle.orders.specs.Orders.{Numbered}
 use Rattle.orders.specs.Steps.{Acts}
 
@@ -54,9 +54,8 @@ module _ {Page Act Result : Type 0} (w : Acts Page Act Result) where
   in_way d n a i = open_at d i && shares_with n a i (slice_get d.filed i)
 
   -- the smallest in its way, of k numbers from i on
-  unfoldable pub way_from : Desk Page Act Result → ℕ → Act → ℕ → ℕ → Option ℕ
-  way_from d n a i zero = None
-  way_from d n a i (suc k) = cond (in_way d n a i) (Some i) (way_from d n a (suc i) k)
+  abbrev pub way_from : Desk Page Act Result → ℕ → Act → ℕ → ℕ → Option ℕ
+  way_from d n a i k = find (in_way d n a) (range_with_len i k)
 
   abbrev pub unless_waits : Act → Option ℕ → Answer Act
   unless_waits a None = ready a
@@ -103,9 +102,8 @@ module _ {Page Act Result : Type 0} (w : Acts Page Act Result) where
   is_ready (ready a) = true
 
   -- the smallest that may be worked, of k numbers from i on
-  unfoldable pub ready_from : Desk Page Act Result → ℕ → ℕ → Option ℕ
-  ready_from d i zero = None
-  ready_from d i (suc k) = cond (is_ready (asked d i)) (Some i) (ready_from d (suc i) k)
+  abbrev pub ready_from : Desk Page Act Result → ℕ → ℕ → Option ℕ
+  ready_from d i k = find (λ j. is_ready (asked d j)) (range_with_len i k)
 
   -- each of these numbers is worked when it is asked for, one after another
   unfoldable pub accepted : Desk Page Act Result → List ℕ → Bool

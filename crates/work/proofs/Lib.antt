@@ -1,6 +1,5 @@
 -- The lemmas by subject; the crates above take what is promised from Promises.
 pub mod Admits
-pub mod Asked
 pub mod Listing
 pub mod Promises
 pub mod Ways

@@ -1,10 +1,10 @@
 -- Filings and marks as lists: how long they are, what stands at a number, and what a change in memory makes of them. Assumes nothing.
-use Rattle.std.proofs.Common.{◌≡◌, ℕ, zero, suc, ◌<◌, ◌≤◌, Bool, true, false, not, List, [], ◌∷◌, ◌++◌, length, get_or, set, is_some, Some, None, Option, sym, refl, ap, ◌∙◌, ⊎_elim, arith}
+use Rattle.std.proofs.Common.{◌≡◌, ℕ, zero, suc, ◌<◌, ◌≤◌, Bool, true, false, List, [], ◌∷◌, ◌++◌, length, get_or, set, is_none, is_some, Some, None, Option, sym, refl, ap, ◌∙◌, ⊎_elim, arith}
 use Rattle.std.proofs.lemmas.List.{get_or-set_same, get_or-set_other, length_push, set-append_left, set_at}
 use Rattle.std.proofs.lemmas.Bool.{cases_lt, true≢false}
 use Rattle.std.specs.List.{slice_get}
 use Rattle.std.specs.Option.{option_to_list}
-use Rattle.orders.proofs.Places.{nth_front, nth_last}
+use Rattle.orders.proofs.Places.{nth_front, nth_last, nth_none, nth_some}
 use Rattle.orders.specs.Desk.{is_open}
 use Rattle.filings.specs.declared.filing.Filing.{Filing}
 use Rattle.entering.specs.declared.outcome.Outcome.{Outcome}
@@ -38,6 +38,12 @@ module _ (kept : ℕ → Option Filing) where
       let at : i ≡ n = omega arith in
       nth_last (filed_in kept n) last.0 i (omega arith) ∙ sym last.1 ∙ ap kept (sym at))
       (cases_lt i n)
+
+  pub filed_past : (n i : ℕ) → ((k : ℕ) → k < n → is_some (kept k) ≡ true) → n ≤ i → slice_get (filed_in kept n) i ≡ None
+  filed_past n i all past = let size = filed_length n all in nth_none (filed_in kept n) i (omega arith)
+
+  pub filed_below : (n i : ℕ) (f : Filing) → ((k : ℕ) → k < n → is_some (kept k) ≡ true) → slice_get (filed_in kept n) i ≡ Some f → i < n
+  filed_below n i f all there = let size = filed_length n all in let within = nth_some (filed_in kept n) i f there in omega arith
 
 pub filed_same : (kept other : ℕ → Option Filing) (n : ℕ) → ((k : ℕ) → k < n → kept k ≡ other k) → filed_in kept n ≡ filed_in other n
 unfolding filed_in
@@ -84,11 +90,12 @@ marks_set ms (suc n) k b h within =
     (cases_lt k n)
 
 -- a filing is open while it has no mark
-pub open_is : (ms : List ℕ) (m n : ℕ) → n < m → (o : Option Outcome) (b : Bool) → o ≡ mark_of (get_or ms n 0) → is_some o ≡ not b → b ≡ is_open (slice_get (marks_in ms m) n)
-open_is ms m n here o b e none = by_mark o b none ∙ ap (λ x. is_open (Some x)) e ∙ ap is_open (sym (marks_nth ms m n here))
+pub open_there : (ms : List ℕ) (m n : ℕ) → n < m → is_open (slice_get (marks_in ms m) n) ≡ is_none (mark_of (get_or ms n 0))
+open_there ms m n here = ap is_open (marks_nth ms m n here) ∙ by_mark (mark_of (get_or ms n 0))
   where
-    by_mark : (x : Option Outcome) (t : Bool) → is_some x ≡ not t → t ≡ is_open (Some x)
-    by_mark None true h = refl
-    by_mark None false h = absurd (true≢false (sym h))
-    by_mark (Some x) true h = absurd (true≢false h)
-    by_mark (Some x) false h = refl
+    by_mark : (o : Option Outcome) → is_open (Some o) ≡ is_none o
+    by_mark None = refl
+    by_mark (Some x) = refl
+
+pub open_past : (ms : List ℕ) (m n : ℕ) → m ≤ n → is_open (slice_get (marks_in ms m) n) ≡ false
+open_past ms m n past = let size = marks_length ms m in ap is_open (nth_none (marks_in ms m) n (omega arith))

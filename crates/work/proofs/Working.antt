@@ -1,18 +1,20 @@
 -- What work makes of the state, from what it makes of the memory. Assumes nothing.
-use Rattle.std.proofs.Common.{◌≡◌, ℕ, ◌<◌, length, set, Some, sym, refl, ap, ◌∙◌}
-use Rattle.orders.specs.Desk.{Answer, asked, if_ready, ready, work}
+use Rattle.std.proofs.Common.{◌≡◌, ℕ, ◌<◌, length, set, Some, Ok, sym, refl, ap, ◌∙◌, arith}
+use Rattle.orders.specs.Desk.{Answer, absent, asked, finished, if_ready, ready, waits, work}
 use Rattle.pages.specs.Register.{page_at}
 use Rattle.filings.specs.Keeping.{kept_at}
+use Rattle.filings.specs.declared.filed.Filed.{Filed}
 use Rattle.filings.specs.declared.filing.Filing.{Filing}
 use Rattle.entering.specs.Entering.{entered, outcome}
 use Rattle.entering.specs.declared.outcome.Outcome.{Outcome}
 use Rattle.entering.specs.declared.outcome.Outcome.TheVariants.{Entered, Rejected}
 use Rattle.entering.specs.declared.outcome.Rejection.TheVariants.{NotLive, NotOwner, NoEntry, Area, Itself, Unlike, Full}
 use Rattle.steps.specs.Acting.{acts}
+use Rattle.work.specs.Asking.{told}
 use Rattle.work.specs.Calls.{state_worked}
 use Rattle.work.specs.Listed.{filed_in, marks_in}
 use Rattle.work.specs.Marks.{mark_byte, mark_of}
-use Rattle.work.specs.State.{Image, desk_in, state_in}
+use Rattle.work.specs.State.{Image, desk_in, numbered, state_in}
 use Rattle.work.proofs.Listing.{marks_set}
 
 -- what was marked is read back
@@ -43,3 +45,10 @@ state_entered im after n f here within e pages filings marks parcels filed =
     in
     (λ i. record { parcels = parcels i; desk = record { register = pages i; filed = filed_in (kept_at (filings i)) (filed i); marks = marked i } }) ∙
     sym (state_after im n (ready f) e)
+
+-- what may be worked is what was asked for
+pub told_of : (P n : ℕ) (filed : Filed) (x : Answer Filing) → Ok filed ≡ told P n x → (ready filed.filing ≡ x) × (filed.parcels ≡ P)
+told_of P n filed absent e = absurd (let z : ◌≡◌ {A = ℕ} 0 1 = cc in omega arith)
+told_of P n filed finished e = absurd (let z : ◌≡◌ {A = ℕ} 0 1 = cc in omega arith)
+told_of P n filed (waits i) e = absurd (let z : ◌≡◌ {A = ℕ} 0 1 = cc in omega arith)
+told_of P n filed (ready f) e = let same : filed ≡ numbered P n f = cc in (ap (λ (x : Filed). ready x.filing) same, ap (λ (x : Filed). x.parcels) same)

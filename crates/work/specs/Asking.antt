@@ -1,29 +1,20 @@
--- What the registry's answer says. Assumes nothing.
-use Rattle.std.specs.Prelude.{◌≡◌, ℕ, ◌<◌}
+-- What the registry answers to whoever asks to work a number. Assumes nothing.
+use Rattle.std.specs.Prelude.{ℕ, Ok, Err, Result}
+use Rattle.orders.specs.Desk.{Answer, absent, asked, finished, ready, waits}
+use Rattle.pages.specs.declared.refusal.Refusal.{Refusal}
+use Rattle.pages.specs.declared.refusal.Refusal.TheVariants.{Done, NotThere, Waits}
+use Rattle.filings.specs.declared.filed.Filed.{Filed}
 use Rattle.filings.specs.declared.filing.Filing.{Filing}
-use Rattle.orders.specs.Desk as desk
-use Rattle.orders.specs.Desk.{asked, if_open, open_at, unless_waits, way_from}
 use Rattle.steps.specs.Acting.{acts}
-use Rattle.work.specs.State.{Image, desk_in}
-use Rattle.work.specs.declared.asking.Answer.{Answer}
-use Rattle.work.specs.declared.asking.Answer.TheVariants.{Absent, Finished, Waits, Ready}
+use Rattle.work.specs.State.{Image, desk_in, numbered}
 
-abbrev pub said : Answer → desk.Answer Filing
-said Absent = desk.absent
-said Finished = desk.finished
-said (Waits i) = desk.waits i
-said (Ready f) = desk.ready f
+-- the answer of the desk by the clerks' rule
+abbrev pub answer_to : Image → ℕ → Answer Filing
+answer_to im n = asked (acts im.parcels) (desk_in im) n
 
--- what is ready has one of the numbers that were given
-abbrev pub Below : Answer → ℕ → ℕ → Type 0
-Below Absent n filed = Unit {0}
-Below Finished n filed = Unit {0}
-Below (Waits i) n filed = Unit {0}
-Below (Ready f) n filed = n < filed
-
--- f came in under the number n, so that whoever asks for it is answered by its mark and by what is in its way
-pub record CameIn (im : Image) (n : ℕ) (f : Filing) : Type 0 where
-  pub below : n < im.filed
-  pub answer :
-      asked (acts im.parcels) (desk_in im) n ≡
-      if_open (acts im.parcels) (open_at (desk_in im) n) (unless_waits (acts im.parcels) f (way_from (acts im.parcels) (desk_in im) n f 0 n))
+-- as it is told: a refusal, or the filing that may be worked
+abbrev pub told : ℕ → ℕ → Answer Filing → Result Filed Refusal
+told P n absent = Err NotThere
+told P n finished = Err Done
+told P n (waits i) = Err (Waits i)
+told P n (ready f) = Ok (numbered P n f)

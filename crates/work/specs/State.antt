@@ -3,6 +3,7 @@ use Rattle.std.specs.Prelude.{ℕ, List}
 use Rattle.orders.specs.Desk.{Desk}
 use Rattle.entries.specs.Sheet.{Sheet}
 use Rattle.filings.specs.Keeping.{kept_at}
+use Rattle.filings.specs.declared.filed.Filed.{Filed}
 use Rattle.filings.specs.declared.filing.Filing.{Filing}
 use Rattle.pages.specs.Register.{page_at}
 use Rattle.entering.specs.declared.outcome.Outcome.{Outcome}
@@ -44,3 +45,7 @@ state_in i = record { parcels = i.parcels; desk = desk_in i }
 
 abbrev pub state_of : Registry → State
 state_of r = state_in (image_of r)
+
+-- a filing under its number, in a register that was opened with P parcels
+abbrev pub numbered : ℕ → ℕ → Filing → Filed
+numbered P n f = record { parcels = P; number = n; filing = f }

@@ -1,59 +1,44 @@
 // The answer to a clerk who asks to work a number.
-ghost use Rattle.std.specs.Prelude.{◌≡◌, ◌+◌, ◌-◌, ◌<◌, if◌then◌else◌, Some};
-ghost use Rattle.orders.specs.Desk.{asked, ready_from};
+ghost use Rattle.std.specs.Prelude.{◌≡◌, ◌-◌, ◌<◌, IfOk};
+ghost use Rattle.orders.specs.Desk.{is_ready, ready_from};
 ghost use Rattle.steps.specs.Acting.{acts};
-ghost use Rattle.work.specs.Asking.{said, Below};
+ghost use Rattle.work.specs.Asking.{answer_to, told};
 ghost use Rattle.work.specs.State.{desk_in, image_of};
 
 use crate::registry::Registry;
-use filings::filing::Filing;
-
-#[derive(Clone, Copy)]
-pub enum Answer {
-    Absent,
-    Finished,
-    // for this one, the smallest open number in the way
-    Waits(u16),
-    Ready(Filing),
-}
+use filings::filed::Filed;
+use pages::refusal::Refusal;
 
 impl Registry<'_> {
-    // Whether a filing is there, still open, and no earlier open one shares a page with it.
-    pub fn ask(&self, number: u16) -> Answer
-        ensures answer { said result ≡ asked (acts self.now.parcels) (desk_in (image_of self.now)) number }
-        ensures below { Below result number self.now.filed }
+    // The filing of a number, if it is there, still open, and no earlier open one shares a page with it.
+    #[tactic(auto, unfolding(orders::specs::Desk::asked))]
+    pub fn ask(&self, number: u16) -> Result<Filed, Refusal>
+        ensures answer { result ≡ told self.now.parcels number (answer_to (image_of self.now) number) }
+        ensures below { IfOk result (λ filed. (filed.number ≡ number) × (filed.number < self.now.filed)) }
     {
-        let Some(filing) = self.came_in(number) else {
-            return Answer::Absent;
+        let Some(filed) = self.filed_under(number) else {
+            return Err(Refusal::NotThere);
         };
         if !self.is_open(number) {
-            return Answer::Finished;
+            return Err(Refusal::Done);
         }
-        match self.in_way(number, filing) {
-            Some(earlier) => Answer::Waits(earlier),
-            None => Answer::Ready(filing),
+        if let Some(earlier) = self.in_way(filed) {
+            return Err(Refusal::Waits(earlier));
         }
+        Ok(filed)
     }
-    // Whether a filing may be worked now; if not, the search goes on behind it.
+
+    #[tactic(auto, using(crate::proofs::Ways::told_ready))]
     fn may_work(&self, number: u16) -> bool
-        requires { number < self.now.filed }
-        ensures { ready_from (acts self.now.parcels) (desk_in (image_of self.now)) number (self.now.filed - number) ≡ (if result then Some number else ready_from (acts self.now.parcels) (desk_in (image_of self.now)) (number + 1) (self.now.filed - (number + 1))) }
+        ensures { result ≡ is_ready (acts self.now.parcels) (answer_to (image_of self.now) number) }
     {
-        match self.ask(number) {
-            Answer::Ready(_) => true,
-            _ => false,
-        }
+        self.ask(number).is_ok()
     }
 
     // The smallest open filing from a number on that may be worked now, if there is one.
     pub fn next_ready(&self, from: u16) -> Option<u16>
         ensures { result ≡ ready_from (acts self.now.parcels) (desk_in (image_of self.now)) from (self.now.filed - from) }
     {
-        for number in from..self.filed {
-            if self.may_work(number) {
-                return Some(number);
-            }
-        }
-        None
+        (from..self.filed).find(|&number| self.may_work(number))
     }
 }

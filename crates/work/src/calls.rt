@@ -1,14 +1,14 @@
 // The registry's calls: it is opened, takes filings in, and works them by the rule.
 ghost use Rattle.std.specs.Prelude.{◌≡◌, [], IfOk};
-ghost use Rattle.orders.specs.Desk.{asked, logged};
+ghost use Rattle.orders.specs.Desk.{logged};
 ghost use Rattle.pages.specs.Opening.{opening};
 ghost use Rattle.pages.specs.Register.{page_at};
 ghost use Rattle.steps.specs.Acting.{acts};
+ghost use Rattle.work.specs.Asking.{answer_to};
 ghost use Rattle.work.specs.Calls.{answered, image_filed, image_opened, image_over, image_worked, number_given, state_filed, state_opened, state_worked, taking_in};
 ghost use Rattle.work.specs.Promises.{From, Onward, Promised};
-ghost use Rattle.work.specs.State.{desk_in, image_of, state_of};
+ghost use Rattle.work.specs.State.{image_of, state_of};
 
-use crate::asking::Answer;
 use crate::memory::Memory;
 use crate::registry::Registry;
 use entering::outcome::Outcome;
@@ -57,17 +57,14 @@ impl Registry<'_> {
     }
 
     // Works a filing, if it is there, still open, and no earlier open one shares a page with it.
+    #[tactic(auto, using(crate::proofs::Promises::work_refused, crate::proofs::Promises::onward_refused))]
     pub fn work(&mut self, number: u16) -> Result<Outcome, Refusal>
-        ensures answer { result ≡ answered self.old.parcels number (page_at self.old.memory.pages.now) (asked (acts self.old.parcels) (desk_in (image_of self.old)) number) }
-        ensures image { image_of self.new ≡ image_worked number (asked (acts self.old.parcels) (desk_in (image_of self.old)) number) (image_of self.old) }
+        ensures answer { result ≡ answered self.old.parcels number (page_at self.old.memory.pages.now) (answer_to (image_of self.old) number) }
+        ensures image { image_of self.new ≡ image_worked number (answer_to (image_of self.old) number) (image_of self.old) }
         ensures state { state_of self.new ≡ state_worked number (state_of self.old) }
-        ensures onward { Onward (state_of self.old) (state_of self.new) (logged (acts self.old.parcels) (asked (acts self.old.parcels) (desk_in (image_of self.old)) number) number) }
+        ensures onward { Onward (state_of self.old) (state_of self.new) (logged (acts self.old.parcels) (answer_to (image_of self.old) number) number) }
     {
-        match self.ask(number) {
-            Answer::Absent => self.refuse(number, Refusal::NotThere),
-            Answer::Finished => self.refuse(number, Refusal::Done),
-            Answer::Waits(earlier) => self.refuse(number, Refusal::Waits(earlier)),
-            Answer::Ready(filing) => self.enter(number, filing),
-        }
+        let filed = self.ask(number)?;
+        self.enter(filed)
     }
 }

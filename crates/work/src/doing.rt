@@ -6,10 +6,12 @@ ghost use Rattle.pages.specs.Register.{page_at, room};
 ghost use Rattle.steps.specs.Acting.{acts};
 ghost use Rattle.work.specs.Calls.{Admits, answered, taking_in};
 ghost use Rattle.work.specs.Promises.{Begins, Files, Works};
+ghost use Rattle.work.specs.Asking.{answer_to, told};
 ghost use Rattle.work.specs.State.{desk_in, image_of};
 
 use crate::registry::Registry;
 use entering::outcome::Outcome;
+use filings::filed::Filed;
 use filings::filing::Filing;
 use pages::refusal::Refusal;
 
@@ -33,18 +35,10 @@ impl Registry<'_> {
         number
     }
 
-    // What is refused changes nothing.
-    pub(crate) fn refuse(&self, number: u16, refusal: Refusal) -> Result<Outcome, Refusal>
-        requires { answered self.now.parcels number (page_at self.now.memory.pages.now) (asked (acts self.now.parcels) (desk_in (image_of self.now)) number) ≡ Err refusal }
-        ensures { Works result number (image_of self.now) (image_of self.now) }
+    pub(crate) fn enter(&mut self, filed: Filed) -> Result<Outcome, Refusal>
+        requires { (Ok filed ≡ told self.old.parcels filed.number (answer_to (image_of self.old) filed.number)) × (filed.number < self.old.filed) }
+        ensures { Works result filed.number (image_of self.old) (image_of self.new) }
     {
-        Err(refusal)
-    }
-
-    pub(crate) fn enter(&mut self, number: u16, filing: Filing) -> Result<Outcome, Refusal>
-        requires { (ready filing ≡ asked (acts self.old.parcels) (desk_in (image_of self.old)) number) × (number < self.old.filed) }
-        ensures { Works result number (image_of self.old) (image_of self.new) }
-    {
-        self.memory.enter(self.parcels, number, filing)
+        self.memory.enter(filed)
     }
 }

@@ -20,12 +20,9 @@ pub(crate) fn mark_of(byte: u8) -> Option<Outcome>
     match byte {
         0 => None,
         1 => Some(Outcome::Entered),
-        2 => Some(Outcome::Rejected(Rejection::NotLive)),
-        3 => Some(Outcome::Rejected(Rejection::NotOwner)),
-        4 => Some(Outcome::Rejected(Rejection::NoEntry)),
-        5 => Some(Outcome::Rejected(Rejection::Area)),
-        6 => Some(Outcome::Rejected(Rejection::Itself)),
-        7 => Some(Outcome::Rejected(Rejection::Unlike)),
-        _ => Some(Outcome::Rejected(Rejection::Full)),
+        _ => {
+            let reason = Rejection::try_from(byte - 1);
+            Some(Outcome::Rejected(reason.unwrap_or(Rejection::Full)))
+        }
     }
 }

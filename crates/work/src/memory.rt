@@ -10,11 +10,11 @@ ghost use Rattle.pages.specs.Opening.{checked, opening, register_opened, words_o
 ghost use Rattle.work.specs.Listed.{filed_in, marks_in};
 ghost use Rattle.work.specs.Marks.{mark_byte, mark_of};
 
-use crate::mark::{mark_byte, mark_of};
+use crate::mark::mark_byte;
 use entering::enter::enter;
 use entering::outcome::Outcome;
-use filings::filing::Filing;
-use filings::slots::{filing_at, put_slot};
+use filings::filed::Filed;
+use filings::slots::put_slot;
 use pages::opening::open_pages;
 use pages::refusal::Refusal;
 
@@ -26,71 +26,31 @@ pub struct Memory<'a> {
 }
 
 impl Memory<'_> {
-    pub(crate) fn filing(&self, number: u16) -> Option<Filing>
-        ensures { result ≡ kept_at self.now.filings.now number }
-    {
-        filing_at(self.filings, number as usize)
-    }
-
-    pub(crate) fn mark(&self, number: u16) -> Option<Outcome>
-        requires { number < length self.now.marks.now }
-        ensures { result ≡ mark_of (slice_index self.now.marks.now number) }
-    {
-        mark_of(self.marks[number as usize])
-    }
-
-    // The filing of a number, of so many that came in.
-    pub(crate) fn filing_among(&self, number: u16, filed: u16) -> Option<Filing>
-        requires { (n : ℕ) → n < filed → is_some (kept_at self.now.filings.now n) ≡ true }
-        ensures { result ≡ slice_get (filed_in (kept_at self.now.filings.now) filed) number }
-    {
-        if number >= filed {
-            return None;
-        }
-        self.filing(number)
-    }
-
-    // Whether it has no mark yet.
-    pub(crate) fn is_open(&self, number: u16, filed: u16) -> bool
-        requires { filed ≤ length self.now.marks.now }
-        ensures { result ≡ is_open (slice_get (marks_in self.now.marks.now filed) number) }
-    {
-        if number >= filed {
-            return false;
-        }
-        self.mark(number).is_none()
-    }
-
     // Enters a filing on the pages; what came of it is not marked yet.
-    fn enter_pages(&mut self, parcels: u16, number: u16, filing: Filing) -> Result<Outcome, Refusal>
-        requires { parcels + 2 * number + 2 ≤ room self.old.pages.now }
-        ensures answer { result ≡ Ok (outcome parcels number filing (page_at self.old.pages.now)) }
-        ensures pages { self.new.pages.now ≡ words_after (act (first_made parcels number) number filing (page_at self.old.pages.now)) self.old.pages.now }
-        ensures register { page_at self.new.pages.now ≡ entered parcels number filing (page_at self.old.pages.now) }
+    fn enter_pages(&mut self, filed: Filed) -> Result<Outcome, Refusal>
+        requires { first_made filed.parcels filed.number + 2 ≤ room self.old.pages.now }
+        ensures answer { result ≡ Ok (outcome filed.parcels filed.number filed.filing (page_at self.old.pages.now)) }
+        ensures pages { self.new.pages.now ≡ words_after (act (first_made filed.parcels filed.number) filed.number filed.filing (page_at self.old.pages.now)) self.old.pages.now }
+        ensures register { page_at self.new.pages.now ≡ entered filed.parcels filed.number filed.filing (page_at self.old.pages.now) }
         ensures filings { self.new.filings.now ≡ self.old.filings.now }
         ensures marks { self.new.marks.now ≡ self.old.marks.now }
         ensures room { room self.new.pages.now ≡ room self.old.pages.now }
     {
-        enter(self.pages, parcels, number, filing)
+        enter(self.pages, filed)
     }
 
     // Enters a filing and marks what came of it.
-    pub(crate) fn enter(
-        &mut self,
-        parcels: u16,
-        number: u16,
-        filing: Filing,
-    ) -> Result<Outcome, Refusal>
-        requires { (number < length self.old.marks.now) × (parcels + 2 * number + 2 ≤ room self.old.pages.now) }
-        ensures answer { result ≡ Ok (outcome parcels number filing (page_at self.old.pages.now)) }
-        ensures pages { self.new.pages.now ≡ words_after (act (first_made parcels number) number filing (page_at self.old.pages.now)) self.old.pages.now }
-        ensures register { page_at self.new.pages.now ≡ entered parcels number filing (page_at self.old.pages.now) }
+    pub(crate) fn enter(&mut self, filed: Filed) -> Result<Outcome, Refusal>
+        requires { (filed.number < length self.old.marks.now) × (first_made filed.parcels filed.number + 2 ≤ room self.old.pages.now) }
+        ensures answer { result ≡ Ok (outcome filed.parcels filed.number filed.filing (page_at self.old.pages.now)) }
+        ensures pages { self.new.pages.now ≡ words_after (act (first_made filed.parcels filed.number) filed.number filed.filing (page_at self.old.pages.now)) self.old.pages.now }
+        ensures register { page_at self.new.pages.now ≡ entered filed.parcels filed.number filed.filing (page_at self.old.pages.now) }
         ensures filings { self.new.filings.now ≡ self.old.filings.now }
-        ensures marks { self.new.marks.now ≡ slice_set self.old.marks.now number (mark_byte (outcome parcels number filing (page_at self.old.pages.now))) }
+        ensures marks { self.new.marks.now ≡ slice_set self.old.marks.now filed.number (mark_byte (outcome filed.parcels filed.number filed.filing (page_at self.old.pages.now))) }
         ensures room { room self.new.pages.now ≡ room self.old.pages.now }
     {
-        let outcome = self.enter_pages(parcels, number, filing)?;
-        self.marks[number as usize] = mark_byte(outcome);
+        let outcome = self.enter_pages(filed)?;
+        self.marks[usize::from(filed.number)] = mark_byte(outcome);
         Ok(outcome)
     }
 
@@ -116,7 +76,7 @@ impl Memory<'_> {
         ensures kept { kept_at self.new.filings.now ≡ put_kept (slots_in self.old.filings.now) number (kept_in (slot_of bytes.now)) (kept_at self.old.filings.now) }
         ensures marks { self.new.marks.now ≡ slice_set self.old.marks.now number 0 }
     {
-        put_slot(self.filings, number as usize, bytes);
-        self.marks[number as usize] = 0;
+        put_slot(self.filings, usize::from(number), bytes);
+        self.marks[usize::from(number)] = 0;
     }
 }

@@ -1,46 +1,29 @@
 // What is in the way of a filing: an open one with a smaller number that shares a page with it.
-ghost use Rattle.std.specs.Prelude.{◌≡◌, ◌<◌, ◌≤◌, MatchOption};
-ghost use Rattle.orders.specs.Desk.{absent, asked, in_way, way_from};
+ghost use Rattle.std.specs.Prelude.{◌≡◌};
+ghost use Rattle.orders.specs.Desk.{in_way, way_from};
 ghost use Rattle.steps.specs.Acting.{acts};
-ghost use Rattle.work.specs.Asking.{CameIn};
 ghost use Rattle.work.specs.State.{desk_in, image_of};
 
 use crate::registry::Registry;
-use filings::filing::Filing;
-use filings::touched::touches;
+use filings::filed::Filed;
 
 impl Registry<'_> {
-    // The filing that came in under a number, with what whoever asks for it is answered by.
-    pub(crate) fn came_in(&self, number: u16) -> Option<Filing>
-        ensures { MatchOption result (absent ≡ asked (acts self.now.parcels) (desk_in (image_of self.now)) number) (CameIn (image_of self.now) number) }
-    {
-        self.filing(number)
-    }
-
     // Whether the filing `earlier` is open and shares a page with this one.
-    fn blocks(&self, earlier: u16, number: u16, filing: Filing) -> bool
-        requires { earlier < self.now.filed }
-        ensures { result ≡ in_way (acts self.now.parcels) (desk_in (image_of self.now)) number filing earlier }
+    fn blocks(&self, earlier: u16, filed: Filed) -> bool
+        requires { filed.parcels ≡ self.now.parcels }
+        ensures { result ≡ in_way (acts filed.parcels) (desk_in (image_of self.now)) filed.number filed.filing earlier }
     {
-        if !self.is_open(earlier) {
-            return false;
-        }
-        let Some(other) = self.filing(earlier) else {
+        let Some(other) = self.filed_under(earlier) else {
             return false;
         };
-        touches(other, self.parcels, earlier).shares(touches(filing, self.parcels, number))
+        self.is_open(earlier) && other.touches().shares(filed.touches())
     }
 
     // The smallest number in the way of a filing, if there is one.
-    pub(crate) fn in_way(&self, number: u16, filing: Filing) -> Option<u16>
-        requires { number ≤ self.now.filed }
-        ensures { result ≡ way_from (acts self.now.parcels) (desk_in (image_of self.now)) number filing 0 number }
+    pub(crate) fn in_way(&self, filed: Filed) -> Option<u16>
+        requires { filed.parcels ≡ self.now.parcels }
+        ensures { result ≡ way_from (acts filed.parcels) (desk_in (image_of self.now)) filed.number filed.filing 0 filed.number }
     {
-        for earlier in 0..number {
-            if self.blocks(earlier, number, filing) {
-                return Some(earlier);
-            }
-        }
-        None
+        (0..filed.number).find(|&earlier| self.blocks(earlier, filed))
     }
 }

@@ -5,7 +5,7 @@ use Rattle.work.proofs.memory.Memory.enter_pages.Goals as goal
 
 pub returns : goal.returns
 returns c =
-    let enough : short_of_room c.args.parcels c.args.number c.args.self.now.pages.now ≡ false = le-ltb _ _ (omega arith) in
+    let enough : short_of_room c.args.filed.parcels c.args.filed.number c.args.self.now.pages.now ≡ false = le-ltb _ _ (omega arith) in
     record {
       answer = c.enter.ensures.answer ∙ cond-false _ _ _ enough;
       pages = c.enter.ensures.words ∙ cond-false _ _ _ enough;
