@@ -1,17 +1,20 @@
-use Rattle.std.proofs.Common.{◌≡◌, ◌∙◌, ap, get_or, drop, arith, rules}
+use Rattle.std.proofs.Common.{◌≡◌, ◌+◌, ◌∙◌, ap, get_or, drop, arith, rules}
 use Rattle.std.proofs.lemmas.Grind.{common_steps}
 use Rattle.std.proofs.lemmas.List.{drop_all, get_or-drop}
-use Rattle.pages.proofs.Made.{from_fn_bytes}
+use Rattle.pages.specs.Bytes.{byte}
+use Rattle.pages.proofs.Made.{all_bytes, made_at}
 use Rattle.pages.proofs.bytes.bytes_at.Goals as goal
 
 pub returns : goal.returns
 returns g c =
     let bs = c.args.bytes.now in
     let at = c.args.at in
+    let made = c.from_fn.ensures.items in
     let rest : c.unwrap_or-rest.result.now ≡ drop at bs = let past = drop_all at bs in grind (arith, common_steps) in
-    from_fn_bytes _ bs at _
+    all_bytes bs _ at _ made.long
+    (made_at _ _ (λ i y. y ≡ byte bs (at + i))
     (λ p q i y e k.
     let met = k.met in
     let here : y ≡ get_or c.unwrap_or-rest.result.now i 0 = search rules in
     (search rules, here ∙ ap (λ l. get_or l i 0) rest ∙ get_or-drop at bs i 0))
-    _ _ c.from_fn.ensures.items
+    _ 0 _ made)
