@@ -1,5 +1,5 @@
 // A page as words of memory, one field to a word, and back. Reading takes any words: each field is cut to its type.
-ghost use Rattle.std.specs.Prelude.{◌≡◌, ◌^◌, ◌<◌, ◌≤◌, min, length, take, drop, slice_index, IfSome, slice_get, ℕ};
+ghost use Rattle.std.specs.Prelude.{◌≡◌, ◌^◌, ◌<◌, ◌≤◌, length, take, drop, IfSome, slice_get, ℕ};
 ghost use Rattle.std.specs.List.{flat_map};
 ghost use Rattle.entries.specs.Sheet.{sheet};
 ghost use Rattle.pages.specs.Words.{entry_in, entries_in, FitsEntry, FitsSheet, head_words, place_words, places, sheet_in, sheet_words};
@@ -43,17 +43,11 @@ fn entries_in(words: &[u64; PAGE_WORDS], count: usize) -> [Entry; MOST_ENTRIES]
     array::from_fn(|i| entry_at(standing, i))
 }
 
-// Words may say anything, and a page has at most 32 entries.
-fn count_in(words: &[u64; PAGE_WORDS]) -> usize
-    ensures { result ≡ min (slice_index words.now 3) 32 }
-{
-    words[3].min(32) as usize
-}
-
 pub(crate) fn page_in(words: &[u64; PAGE_WORDS]) -> Page
     ensures { sheet result ≡ sheet_in words.now }
 {
-    let count = count_in(words);
+    // words may say anything, and a page has at most 32 entries
+    let count = words[3].min(32) as usize;
     Page {
         live: words[0] == 1,
         owner: (words[1] % 0x1_0000_0000) as u32,
