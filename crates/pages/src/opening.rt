@@ -45,12 +45,9 @@ impl<'a> Opening<'a> {
         if self.pages.len() != 8 * self.parcels as usize {
             return Err(Refusal::Pages(self.pages.len()));
         }
-        for parcel in 0..self.parcels {
-            if !self.area_fits(parcel) {
-                return Err(Refusal::Area(parcel));
-            }
-        }
-        Ok(())
+        (0..self.parcels)
+            .find(|&parcel| !self.area_fits(parcel))
+            .map_or(Ok(()), |parcel| Err(Refusal::Area(parcel)))
     }
 
     // The page that a number is given: past the parcels there is no land yet.
