@@ -1,15 +1,21 @@
 // Numbers in bytes, low byte first. A byte past the end reads as 0, so that reading is total.
 ghost use Rattle.std.specs.Prelude.{◌≡◌};
-ghost use Rattle.pages.specs.Bytes.{bytes_from, eight, four, two};
+ghost use Rattle.pages.specs.Bytes.{byte, bytes_from, eight, four, two};
 
 use std::array;
+
+fn byte_at(bytes: &[u8], at: usize) -> u8
+    ensures { result ≡ byte bytes.now at }
+{
+    bytes.get(at).copied().unwrap_or(0)
+}
 
 // So many bytes from a place on.
 pub fn bytes_at<const N: usize>(bytes: &[u8], at: usize) -> [u8; N]
     ensures { result ≡ bytes_from N bytes.now at }
 {
     let rest = bytes.get(at..).unwrap_or(&[]);
-    array::from_fn(|i| rest.get(i).copied().unwrap_or(0))
+    array::from_fn(|i| byte_at(rest, i))
 }
 
 // The number in two bytes at an offset.
