@@ -1,27 +1,28 @@
 -- The checks of an opening: its areas, one parcel at a time, and what a good one is known by. Assumes nothing.
-use Rattle.std.proofs.Common.{◌≡◌, ℕ, suc, ◌+◌, ◌-◌, ◌*◌, ◌/◌, ◌<◌, ◌≤◌, Bool, true, false, cond, ◌||◌, eqb, ltb, List, length, Ok, Err, Result, sym, refl, ap, ◌∙◌, subst, ⊎_elim, add-one, arith}
+use Rattle.std.proofs.Common.{◌≡◌, ℕ, zero, suc, not, Some, Option, ◌+◌, ◌*◌, ◌/◌, ◌<◌, ◌≤◌, Bool, true, false, cond, ◌||◌, eqb, ltb, List, length, Ok, Err, Result, sym, refl, ap, ◌∙◌, subst, ⊎_elim, add-one, arith}
 use Rattle.std.proofs.lemmas.Bool.{cases_eq, cases_lt, cond-true, cond-false, eq-eqb, eqb-true, le-ltb, lt-ltb, ne_eqb}
+use Rattle.std.specs.List.{find, range_with_len}
+use Rattle.std.specs.Option.{option_map_or}
 use Rattle.entries.specs.Sheet.{Sheet}
 use Rattle.pages.specs.Opening.{fits, area_in, areas_checked, checked, opened_page, opened_words}
 use Rattle.pages.specs.Register.{Register, page_at, put, put_kept, put_page, room}
 use Rattle.pages.specs.declared.refusal.Refusal.{Refusal}
 use Rattle.pages.specs.declared.refusal.Refusal.TheVariants.{Parcels, Pages, Area}
 
-areas_step :
-    (bs : List ℕ) (parcel n : ℕ) → parcel < n →
-    areas_checked bs parcel (n - parcel) ≡ cond (fits (area_in bs parcel)) (areas_checked bs (parcel + 1) (n - (parcel + 1))) (Err (Area parcel))
-areas_step bs parcel n h =
-    let left : n - parcel ≡ suc (n - (parcel + 1)) = omega arith in
-    rw (left, add-one parcel)
-
-pub areas_fit :
-    (bs : List ℕ) (parcel n : ℕ) → parcel < n → fits (area_in bs parcel) ≡ true →
-    areas_checked bs parcel (n - parcel) ≡ areas_checked bs (parcel + 1) (n - (parcel + 1))
-areas_fit bs parcel n h f = areas_step bs parcel n h ∙ cond-true _ _ _ f
-
-pub areas_refused :
-    (bs : List ℕ) (parcel n : ℕ) → parcel < n → fits (area_in bs parcel) ≡ false → areas_checked bs parcel (n - parcel) ≡ Err (Area parcel)
-areas_refused bs parcel n h f = areas_step bs parcel n h ∙ cond-false _ _ _ f
+-- refused is the first parcel whose area does not fit
+pub areas_found :
+    (bs : List ℕ) (parcel n : ℕ) →
+    option_map_or (λ p. Err (Area p)) (find (λ p. not (fits (area_in bs p))) (range_with_len parcel n)) (Ok tt) ≡ areas_checked bs parcel n
+areas_found bs parcel zero = refl
+areas_found bs parcel (suc n) =
+    let later = areas_found bs (parcel + 1) n ∙ ap (λ p. areas_checked bs p n) (add-one parcel) in
+    by_area (fits (area_in bs parcel)) _ _ later
+  where
+    by_area :
+        (b : Bool) (o : Option ℕ) (r : Result (Unit {0}) Refusal) → option_map_or (λ p. Err (Area p)) o (Ok tt) ≡ r →
+        option_map_or (λ p. Err (Area p)) (cond (not b) (Some parcel) o) (Ok tt) ≡ cond b r (Err (Area parcel))
+    by_area true o r e = e
+    by_area false o r e = refl
 
 -- a good opening has 8 bytes a page
 good_length : (a b : Bool) (r : Result (Unit {0}) Refusal) (n : ℕ) → cond a (Err Parcels) (cond b r (Err (Pages n))) ≡ Ok tt → b ≡ true

@@ -1,15 +1,20 @@
 -- A page that is written is read back, and every other page is as it was. Assumes nothing.
-use Rattle.std.proofs.Common.{◌≡◌, ℕ, zero, suc, ◌+◌, ◌-◌, ◌*◌, ◌/◌, ◌%◌, ◌^◌, ◌<◌, ◌≤◌, min, Bool, true, false, cond, eqb, ltb, ◌⊎◌, List, [], ◌∷◌, ◌++◌, length, take, drop, sym, refl, ap, ◌∙◌, inl, inr, ⊎_elim, arith, length-append}
+use Rattle.std.proofs.Common.{Bor, Option, Some, None, ◌≡◌, ℕ, zero, suc, ◌+◌, ◌-◌, ◌*◌, ◌/◌, ◌%◌, ◌^◌, ◌<◌, ◌≤◌, min, Bool, true, false, cond, eqb, ltb, ◌⊎◌, List, [], ◌∷◌, ◌++◌, length, take, drop, sym, refl, ap, ◌∙◌, inl, inr, ⊎_elim, arith, append-nil, length-append, length-drop}
 use borrow.Rule.Slice.PartMut.{put_mid}
-use Rattle.std.proofs.lemmas.List.{drop-drop}
-use Rattle.std.proofs.lemmas.Bool.{cases_Bool, cases_lt, cond-true, cond-false, eqb-true, eqb-false, ltb-true, le-ltb, lt-ltb, true≢false}
+use Rattle.std.proofs.lemmas.List.{drop_all, drop-drop, take_all, take-append-drop}
+use Rattle.std.proofs.lemmas.Bool.{cases_Bool, cases_lt, cond-true, cond-false, eqb-true, eqb-false, ltb-false, ltb-true, le-ltb, lt-ltb, true≢false}
+use Rattle.std.proofs.lemmas.Option.{get_or_from_slice_get}
 use Rattle.std.specs.List.{slice_get}
+use Rattle.std.specs.Option.{MatchOption}
+use Rattle.std.specs.Simd.{first_chunks}
+use Rattle.std.specs.Slice.{IsItemAt}
 use Rattle.entries.specs.Sheet.{Sheet}
 use Rattle.entries.specs.declared.entry.Claim.{Claim}
 use Rattle.entries.specs.declared.entry.Claim.TheVariants.{Charge, Reserved}
 use Rattle.entries.specs.declared.entry.Entry.{Entry}
 use Rattle.pages.specs.Register.{no_page, put, put_kept, room, words_at, page_at, put_page}
 use Rattle.pages.specs.Words.{flag, claim_words, entry_words, places, sheet_words, entry_in, entries_in, sheet_in, FitsEntry, FitsSheet}
+use Rattle.pages.proofs.Reading.{chunk_at}
 use Rattle.pages.proofs.Swapped.{swapped, swapped_here, swapped_below, swapped_above, swapped_size}
 use Rattle.pages.proofs.Writing.{place_size}
 
@@ -118,41 +123,81 @@ module _ (ws : List ℕ) (p : ℕ) (s : Sheet) where
         (λ e. put_other q (eqb-false q p e) ∙ sym (cond-false (eqb q p) _ _ e))
         (cases_Bool (eqb q p))
 
-  pub page_put : FitsSheet s → page_at (put_page ws p s) ≡ put_kept (room ws) p s (page_at ws)
+  pub page_put : (p < room ws → FitsSheet s) → page_at (put_page ws p s) ≡ put_kept (room ws) p s (page_at ws)
   page_put fit =
       ⊎_elim
-      (λ e. (λ i q. put_at fit e q i) ∙ sym (cond-true (ltb p (room ws)) _ _ e))
+      (λ e. (λ i q. put_at (fit (ltb-true p (room ws) e)) e q i) ∙ sym (cond-true (ltb p (room ws)) _ _ e))
       (λ e. ap page_at (past e) ∙ sym (cond-false (ltb p (room ws)) _ _ e))
       (cases_Bool (ltb p (room ws)))
 
-  -- what `write_page` does: it writes a part in the middle, or nothing
-  pub put_there : p < room ws → (xs : List ℕ) → xs ≡ sheet_words s → put_mid (132 * p) (132 * p + 132 - 132 * p) ws xs ≡ put_page ws p s
+-- the first page of some words, written or left
+module _ (ws : List ℕ) (s : Sheet) where
+  pub first_put : 132 ≤ length ws → (after new : List ℕ) → new ≡ sheet_words s → after ≡ new ++ drop 132 ws → after ≡ put_page ws 0 s
   unfolding put_page
-  put_there h xs e =
-      let here = lt-ltb p (room ws) h in
-      let rest : drop (132 * p + 132 - 132 * p) (drop (132 * p) ws) ≡ drop (132 * p + 132) ws = drop-drop (132 * p + 132 - 132 * p) (132 * p) ws ∙ ap (λ n. drop n ws) (omega arith) in
-      (λ i. take (132 * p) ws ++ (e i ++ rest i)) ∙ sym (cond-true (ltb p (room ws)) _ _ here)
+  first_put enough after new written kept =
+      kept ∙ (λ i. written i ++ drop 132 ws) ∙ sym (cond-true (ltb 0 (room ws)) _ _ (lt-ltb 0 (room ws) (omega arith)))
 
-  pub record Untouched (after : List ℕ) : Type 0 where
-    pub words : after ≡ put_page ws p s
-    pub register : page_at after ≡ put_kept (room ws) p s (page_at ws)
+  pub first_left : length ws < 132 → ws ≡ put_page ws 0 s
+  unfolding put_page
+  first_left few = sym (cond-false (ltb 0 (room ws)) _ _ (le-ltb 0 (room ws) (omega arith)))
 
-  pub past_end : room ws ≤ p → Untouched ws
-  past_end h =
-      let e = le-ltb p (room ws) h in
-      record { words = sym (past e); register = sym (cond-false (ltb p (room ws)) _ _ e) }
+-- what `write_page` does: it lends the words from the page on, and of these the first page is written
+module _ (ws : List ℕ) (p : ℕ) (s : Sheet) (start : ℕ) (is : start ≡ 132 * min p (room ws)) where
+  abbrev pub rest : List ℕ
+  rest = take (length ws - start) (drop start ws)
+
+  whole : rest ≡ drop start ws
+  whole = take_all (length ws - start) (drop start ws) (simp length-drop (omega arith))
+
+  behind : drop (length ws - start) (drop start ws) ≡ []
+  behind = drop_all (length ws - start) (drop start ws) (simp length-drop (omega arith))
+
+  left : length rest ≡ length ws - start
+  left = ap length whole ∙ length-drop start ws
+
+  pub room_left : p < room ws → 0 < room rest
+  room_left h = let long = left in omega arith
+
+  put_here_or_past : (p < room ws) ⊎ (room ws ≤ p) → put_mid start (length ws - start) ws (put_page rest 0 s) ≡ put_page ws p s
+  unfolding put_page
+  put_here_or_past (inl h) =
+      let here : start ≡ 132 * p = omega arith in
+      let kept : drop 132 rest ≡ drop (start + 132) ws = ap (drop 132) whole ∙ drop-drop 132 start ws in
+      let put : put_page rest 0 s ≡ sheet_words s ++ drop (start + 132) ws =
+      cond-true (ltb 0 (room rest)) _ _ (lt-ltb 0 (room rest) (room_left h)) ∙ ap (λ l. sheet_words s ++ l) kept in
+      (λ i. take start ws ++ (put i ++ behind i)) ∙
+      ap (λ l. take start ws ++ l) (append-nil (sheet_words s ++ drop (start + 132) ws)) ∙
+      ap (λ n. take n ws ++ (sheet_words s ++ drop (n + 132) ws)) here ∙
+      sym (cond-true (ltb p (room ws)) _ _ (lt-ltb p (room ws) h))
+  put_here_or_past (inr h) =
+      let put : put_page rest 0 s ≡ rest = let long = left in cond-false (ltb 0 (room rest)) _ _ (le-ltb 0 (room rest) (omega arith)) in
+      (λ i. take start ws ++ ((put ∙ whole) i ++ behind i)) ∙
+      ap (λ l. take start ws ++ l) (append-nil (drop start ws)) ∙
+      take-append-drop start ws ∙
+      sym (cond-false (ltb p (room ws)) _ _ (le-ltb p (room ws) h))
+
+  pub put_there : (part : List ℕ) → part ≡ put_page rest 0 s → put_mid start (length ws - start) ws part ≡ put_page ws p s
+  put_there part e = ap (put_mid start (length ws - start) ws) e ∙ put_here_or_past (cases_lt p (room ws))
 
 -- what `read_page` reads
 module _ (ws : List ℕ) (p : ℕ) where
-  pub read_there : (t : Sheet) → p < room ws → t ≡ sheet_in (take (132 * p + 132 - 132 * p) (drop (132 * p) ws)) → t ≡ page_at ws p
+  read_there : p < room ws → page_at ws p ≡ sheet_in (words_at ws p)
   unfolding page_at
-  read_there t h e =
-      let size : 132 * p + 132 - 132 * p ≡ 132 = omega arith in
-      e ∙ ap (λ n. sheet_in (take n (drop (132 * p) ws))) size ∙ sym (cond-true (ltb p (room ws)) _ _ (lt-ltb _ _ h))
+  read_there h = cond-true (ltb p (room ws)) _ _ (lt-ltb _ _ h)
 
-  pub read_past : (t : Sheet) → room ws ≤ p → t ≡ no_page → t ≡ page_at ws p
+  read_past : room ws ≤ p → page_at ws p ≡ no_page
   unfolding page_at
-  read_past t h e = e ∙ sym (cond-false (ltb p (room ws)) _ _ (le-ltb _ _ h))
+  read_past h = cond-false (ltb p (room ws)) _ _ (le-ltb _ _ h)
+
+  pub page_got :
+      (pages : List (List ℕ)) (got : Option (Bor (List ℕ))) → pages ≡ first_chunks 132 (room ws) ws → length pages ≡ room ws → IsItemAt pages p got →
+      MatchOption got (page_at ws p ≡ no_page) (λ page. page_at ws p ≡ sheet_in page.now)
+  page_got pages None are many found = let outside = ltb-false _ _ (sym found.0) in read_past (omega arith)
+  page_got pages (Some page) are many found =
+      let inside = ltb-true _ _ (sym found.0) in
+      let here : p < room ws = omega arith in
+      let chunk = ap (λ l. slice_get l p) are ∙ chunk_at 132 _ ws p here in
+      read_there here ∙ ap sheet_in (sym (found.1 ∙ get_or_from_slice_get pages p _ _ chunk))
 
   -- a live page lies within the memory
   pub live_within : (page_at ws p).live ≡ true → p < room ws

@@ -1,5 +1,7 @@
 -- Any part of a list in place of another of its size. Assumes nothing.
-use Rattle.std.proofs.Common.{◌≡◌, ℕ, ◌+◌, ◌-◌, ◌≤◌, List, ◌++◌, length, take, drop, sym, ap, ◌∙◌, append_assoc, arith, length-append, length-drop, length-take}
+use Rattle.std.proofs.Common.{◌≡◌, ℕ, ◌+◌, ◌-◌, ◌≤◌, List, ◌++◌, length, take, drop, sym, ap, ◌∙◌, arith, length-drop, length-take}
+use Rattle.std.proofs.lemmas.List.Edits.{drop-paste, length-paste, paste_all}
+use Rattle.std.proofs.Math.Seq.{paste}
 use Rattle.std.proofs.lemmas.List.{take_at, take-take, take-append-le, drop_at, drop-append-le, drop-drop, drop-take, length-take-le}
 
 module _ {X : Type 0} (xs ys : List X) (a n : ℕ) (size : length ys ≡ n) (within : a + n ≤ length xs) where
@@ -22,18 +24,15 @@ module _ {X : Type 0} (xs ys : List X) (a n : ℕ) (size : length ys ≡ n) (wit
       ap (take n) left ∙
       take-take n m (drop b xs) (omega arith)
 
+  pasted : paste xs a ys n ≡ swapped
+  pasted = paste_all xs a ys n (sym size)
+
   pub swapped_above : (b : ℕ) → a + n ≤ b → drop b swapped ≡ drop b xs
   swapped_above b h =
-      let front = length-take-le a xs (omega arith) in
       let m : ℕ = b - (a + n) in
-      let split : b ≡ (a + n) + m = omega arith in
-      let rest : drop (a + n) swapped ≡ drop (a + n) xs =
-      ap (drop (a + n)) (sym (append_assoc (take a xs) ys (drop (a + n) xs))) ∙
-      drop_at (take a xs ++ ys) (drop (a + n) xs) (a + n) (simp length-append (omega arith))
-      in
-      ap (λ k. drop k swapped) split ∙ sym (drop-drop m (a + n) swapped) ∙ ap (drop m) rest ∙ drop-drop m (a + n) xs ∙ ap (λ k. drop k xs) (sym split)
+      let split : a + n + m ≡ b = omega arith in
+      let rest : drop (a + n) swapped ≡ drop (a + n) xs = ap (drop (a + n)) (sym pasted) ∙ drop-paste xs a ys n (omega arith) (omega arith) in
+      ap (λ k. drop k swapped) (sym split) ∙ sym (drop-drop m (a + n) swapped) ∙ ap (drop m) rest ∙ drop-drop m (a + n) xs ∙ ap (λ k. drop k xs) split
 
   pub swapped_size : length swapped ≡ length xs
-  swapped_size =
-      let front = length-take-le a xs (omega arith) in
-      simp (length-append, length-drop) (omega arith)
+  swapped_size = ap length (sym pasted) ∙ length-paste xs a ys n within (omega arith)

@@ -1,9 +1,8 @@
 -- A page written to its words, place by place. Assumes nothing.
-use Rattle.std.proofs.Common.{◌≡◌, ℕ, zero, suc, ◌+◌, ◌*◌, ◌≤◌, List, [], ◌∷◌, ◌++◌, length, take, Some, None, Option, sym, refl, ap, ◌∙◌, append_assoc, append-nil, add-one, arith}
+use Rattle.std.proofs.Common.{◌≡◌, ℕ, zero, suc, ◌<◌, List, [], ◌∷◌, ◌++◌, length, get_or, take, drop, Some, None, Option, refl, ap, ◌∙◌, append-nil, arith, length-drop}
 use borrow.Rule.Slice.PartMut.{put_mid}
-use Rattle.std.proofs.lemmas.List.{take_all}
-use Rattle.std.proofs.lemmas.Slice.{take-put_mid}
-use Rattle.std.specs.List.{slice_get}
+use Rattle.std.proofs.lemmas.List.{drop_all, take_at}
+use Rattle.std.specs.List.{flat_map, slice_get}
 use Rattle.entries.specs.Sheet.{Sheet}
 use Rattle.entries.specs.declared.entry.Claim.{Claim}
 use Rattle.entries.specs.declared.entry.Claim.TheVariants.{Charge, Reserved}
@@ -18,32 +17,26 @@ pub place_size : (o : Option Entry) → length (place_words o) ≡ 4
 place_size None = refl
 place_size (Some e) = ap (λ n. suc (suc n)) (claim_size e.claim)
 
--- one place more
-places_more : (n : ℕ) (es : List Entry) → places (suc n) es ≡ places n es ++ place_words (slice_get es n)
+pub places_written :
+    (n : ℕ) (es : List Entry) (written : List (List ℕ)) → length written ≡ n → ((i : ℕ) → i < n → get_or written i [] ≡ place_words (slice_get es i)) →
+    flat_map (λ x. x) written ≡ places n es
 unfolding places
-places_more zero [] = refl
-places_more zero (e ∷ es) = append-nil (place_words (Some e))
-places_more (suc n) [] = ap (λ l. place_words None ++ l) (places_more n []) ∙ sym (append_assoc (place_words None) (places n []) (place_words None))
-places_more (suc n) (e ∷ es) = ap (λ l. place_words (Some e) ++ l) (places_more n es) ∙ sym (append_assoc (place_words (Some e)) (places n es) (place_words (slice_get es n)))
+places_written zero es [] long is = refl
+places_written zero es (x ∷ xs) long is = absurd (omega arith)
+places_written (suc n) es [] long is = absurd (omega arith)
+places_written (suc n) [] (x ∷ xs) long is =
+    let rest = places_written n [] xs (omega arith) (λ i h. is (suc i) (omega arith)) in
+    λ j. is 0 (omega arith) j ++ rest j
+places_written (suc n) (e ∷ es) (x ∷ xs) long is =
+    let rest = places_written n es xs (omega arith) (λ i h. is (suc i) (omega arith)) in
+    λ j. is 0 (omega arith) j ++ rest j
 
-module _ (s : Sheet) where
-  -- the words below the place i are written
-  abbrev pub Written : ℕ → List ℕ → Type 0
-  Written i ws = take (4 * i + 4) ws ≡ head_words s ++ places i s.entries
-
-  pub written_head : (xs rest : List ℕ) → xs ≡ head_words s → Written 0 (xs ++ rest)
-  unfolding places
-  written_head xs rest e = ap (λ l. take 4 (l ++ rest)) e
-
-  pub written_more :
-      (i k : ℕ) (ws ys : List ℕ) → 4 * i + 4 ≤ length ws → Written i ws → ys ≡ place_words (slice_get s.entries i) → Written (i + 1) (put_mid (4 * i + 4) k ws ys)
-  written_more i k ws ys within so_far e =
-      let four = ap length e ∙ place_size (slice_get s.entries i) in
-      take-put_mid (4 * i + 4) k ws ys (4 * (i + 1) + 4) (omega arith) within ∙
-      (λ j. so_far j ++ e j) ∙
-      append_assoc (head_words s) (places i s.entries) (place_words (slice_get s.entries i)) ∙
-      ap (λ l. head_words s ++ l) (sym (places_more i s.entries) ∙ ap (λ n. places n s.entries) (sym (add-one i)))
-
-  pub written_all : (i : ℕ) (ws : List ℕ) → i ≡ 32 → length ws ≡ 132 → Written i ws → ws ≡ sheet_words s
-  written_all i ws last long all =
-      sym (take_all (4 * i + 4) ws (omega arith)) ∙ all ∙ ap (λ n. head_words s ++ places n s.entries) last
+-- the head, then the places behind it
+pub sheet_written :
+    (s : Sheet) (head rest behind : List ℕ) → length (head ++ rest) ≡ 132 → head ≡ head_words s → behind ≡ places 32 s.entries →
+    put_mid 4 128 (head ++ rest) behind ≡ sheet_words s
+sheet_written s head rest behind long is places_are =
+    let four : length head ≡ 4 = ap length is in
+    let front : take 4 (head ++ rest) ≡ head = take_at head rest 4 four in
+    let none : drop 128 (drop 4 (head ++ rest)) ≡ [] = drop_all 128 (drop 4 (head ++ rest)) (simp length-drop (omega arith)) in
+    λ j. (front ∙ is) j ++ ((λ k. places_are k ++ none k) ∙ append-nil (places 32 s.entries)) j

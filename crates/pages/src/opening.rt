@@ -2,7 +2,7 @@
 ghost use Rattle.std.specs.Prelude.{◌≡◌, ◌≤◌};
 ghost use Rattle.entries.specs.Sheet.{sheet};
 ghost use Rattle.pages.specs.Register.{page_at, room};
-ghost use Rattle.pages.specs.Opening.{fits, owner_in, area_in, checked, opened_page, opened_words, opening, register_opened, words_opened};
+ghost use Rattle.pages.specs.Opening.{fits, owner_in, area_in, checked, opened_page, opened_words, opening as opened, register_opened, words_opened};
 
 use crate::bytes::four_at;
 use crate::refusal::{Lent, Refusal};
@@ -13,76 +13,76 @@ pub const MOST_PARCELS: u16 = 1024;
 
 pub const MOST_AREA: u32 = 1_000_000_000;
 
-fn area_fits(area: u32) -> bool
-    ensures { result ≡ fits area }
-{
-    area >= 1 && area <= MOST_AREA
+#[derive(Clone, Copy)]
+pub struct Opening<'a> {
+    pub parcels: u16,
+    // for each parcel its owner in four bytes and its area in four
+    pub pages: &'a [u8],
 }
 
-fn owner_at(pages: &[u8], parcel: u16) -> u32
-    ensures { result ≡ owner_in pages.now parcel }
-{
-    four_at(pages, 8 * parcel as u32)
-}
-
-fn area_at(pages: &[u8], parcel: u16) -> u32
-    ensures { result ≡ area_in pages.now parcel }
-{
-    four_at(pages, 8 * parcel as u32 + 4)
-}
-
-// The checks of an opening, in the order of their numbers: 1, 2, 3.
-pub fn check_opening(parcels: u16, pages: &[u8]) -> Result<(), Refusal>
-    ensures { result ≡ checked parcels pages.now }
-{
-    if parcels == 0 || parcels > MOST_PARCELS {
-        return Err(Refusal::Parcels);
+impl<'a> Opening<'a> {
+    fn owner_and_area(self, parcel: u16) -> (u32, u32)
+        ensures { result ≡ (owner_in self.entry.pages.now parcel, area_in self.entry.pages.now parcel) }
+    {
+        let start = 8 * parcel as u32;
+        (four_at(self.pages, start), four_at(self.pages, start + 4))
     }
-    if pages.len() != 8 * parcels as usize {
-        return Err(Refusal::Pages(pages.len()));
+
+    fn area_fits(self, parcel: u16) -> bool
+        ensures { result ≡ fits (area_in self.entry.pages.now parcel) }
+    {
+        let (_, area) = self.owner_and_area(parcel);
+        area >= 1 && area <= MOST_AREA
     }
-    for parcel in 0..parcels {
-        if !area_fits(area_at(pages, parcel)) {
-            return Err(Refusal::Area(parcel));
+
+    // The checks of an opening, in the order of their numbers: 1, 2, 3.
+    pub fn check(self) -> Result<(), Refusal>
+        ensures { result ≡ checked self.entry.parcels self.entry.pages.now }
+    {
+        if self.parcels == 0 || self.parcels > MOST_PARCELS {
+            return Err(Refusal::Parcels);
         }
+        if self.pages.len() != 8 * self.parcels as usize {
+            return Err(Refusal::Pages(self.pages.len()));
+        }
+        (0..self.parcels)
+            .find(|&parcel| !self.area_fits(parcel))
+            .map_or(Ok(()), |parcel| Err(Refusal::Area(parcel)))
     }
-    Ok(())
-}
 
-// The page that an opening gives a number: past its parcels there is no land yet.
-fn opened_page(parcels: u16, pages: &[u8], parcel: usize) -> Page
-    ensures { sheet result ≡ opened_page parcels pages.now parcel }
-{
-    if parcel >= parcels as usize {
-        return Page::vacant(false, 0, 0);
+    // The page that a number is given: past the parcels there is no land yet.
+    fn page(self, parcel: usize) -> Page
+        ensures { sheet result ≡ opened_page self.entry.parcels self.entry.pages.now parcel }
+    {
+        if parcel >= self.parcels as usize {
+            return Page::vacant(false, 0, 0);
+        }
+        let (owner, area) = self.owner_and_area(parcel as u16);
+        Page::vacant(true, owner, area as u64)
     }
-    let parcel = parcel as u16;
-    let owner = owner_at(pages, parcel);
-    let area = area_at(pages, parcel);
-    Page::vacant(true, owner, area as u64)
 }
 
 // Lent words may hold anything, so every page that there is room for is written.
-fn write_opening(words: &mut [u64], parcels: u16, pages: &[u8])
-    requires { parcels ≤ room words.old }
-    ensures words { words.new ≡ opened_words parcels pages.now words.old (room words.old) }
-    ensures register { page_at words.new ≡ opened_page parcels pages.now }
+fn write_opening(words: &mut [u64], opening: Opening)
+    requires { opening.parcels ≤ room words.old }
+    ensures words { words.new ≡ opened_words opening.entry.parcels opening.entry.pages.now words.old (room words.old) }
+    ensures register { page_at words.new ≡ opened_page opening.entry.parcels opening.entry.pages.now }
 {
     for parcel in 0..pages_room(words) {
-        write_page(words, parcel, opened_page(parcels, pages, parcel));
+        write_page(words, parcel, opening.page(parcel));
     }
 }
 
 // Opens the register in lent words, or refuses and leaves them as they are.
-pub fn open_pages(words: &mut [u64], parcels: u16, pages: &[u8]) -> Result<(), Refusal>
-    ensures answer { result ≡ opening parcels pages.now words.old }
-    ensures words { words.new ≡ words_opened result parcels pages.now words.old }
-    ensures register { page_at words.new ≡ register_opened result parcels pages.now (page_at words.old) }
+pub fn open_pages(words: &mut [u64], opening: Opening) -> Result<(), Refusal>
+    ensures answer { result ≡ opened opening.entry.parcels opening.entry.pages.now words.old }
+    ensures words { words.new ≡ words_opened result opening.entry.parcels opening.entry.pages.now words.old }
+    ensures register { page_at words.new ≡ register_opened result opening.entry.parcels opening.entry.pages.now (page_at words.old) }
 {
-    if pages_room(words) < parcels as usize {
+    if pages_room(words) < opening.parcels as usize {
         return Err(Refusal::Short(Lent::Pages));
     }
-    check_opening(parcels, pages)?;
-    write_opening(words, parcels, pages);
+    opening.check()?;
+    write_opening(words, opening);
     Ok(())
 }

@@ -2,14 +2,15 @@
 ghost use Rattle.std.specs.Prelude.{◌≡◌, Some};
 ghost use Rattle.pages.specs.Refusal.{number_of, place_of, refusal_text};
 
+use std::error::Error;
 use std::fmt;
 
-// The three parts of lent memory.
+// The three parts of lent memory, by their numbers.
 #[derive(Clone, Copy, PartialEq, Eq, Debug)]
 pub enum Lent {
-    Pages,
-    Filings,
-    Marks,
+    Pages = 0,
+    Filings = 1,
+    Marks = 2,
 }
 
 // The numbered reasons, in the order of their numbers.
@@ -70,11 +71,8 @@ impl Refusal {
             Refusal::Length(length) => length,
             Refusal::Amount(byte) => byte,
             Refusal::Waits(filing) => filing as usize,
-            Refusal::Short(Lent::Pages) => 0,
-            Refusal::Short(Lent::Filings) => 1,
-            Refusal::Short(Lent::Marks) => 2,
-            Refusal::Parcels | Refusal::Kind | Refusal::Full => 0,
-            Refusal::NotThere | Refusal::Done | Refusal::NoParcel => 0,
+            Refusal::Short(part) => part as usize,
+            _ => 0,
         }
     }
 }
@@ -88,3 +86,5 @@ impl fmt::Display for Refusal {
         write!(f, "{number} at {place}")
     }
 }
+
+impl Error for Refusal {}

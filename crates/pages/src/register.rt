@@ -1,7 +1,8 @@
 // The register in lent words: the page of a parcel is the part of them that its number says.
-ghost use Rattle.std.specs.Prelude.{◌≡◌, ◌<◌};
+ghost use Rattle.std.specs.Prelude.{◌≡◌, ◌*◌, ◌<◌, min, MatchOption};
 ghost use Rattle.entries.specs.Sheet.{sheet};
-ghost use Rattle.pages.specs.Register.{page_at, put_page, put_kept, room};
+ghost use Rattle.pages.specs.Register.{no_page, page_at, put_page, put_kept, room};
+ghost use Rattle.pages.specs.Words.{FitsSheet, sheet_in};
 
 use crate::words::{PAGE_WORDS, page_in, put_words};
 use entries::page::Page;
@@ -13,32 +14,39 @@ pub fn pages_room(words: &[u64]) -> usize
     words.len() / PAGE_WORDS
 }
 
-fn page_within(words: &[u64], parcel: usize) -> Page
-    requires { parcel < room words.now }
-    ensures { sheet result ≡ page_at words.now parcel }
+// The words of a page; past the end of the memory there are none.
+fn page_words(words: &[u64], parcel: usize) -> Option<&[u64; PAGE_WORDS]>
+    ensures { MatchOption result (page_at words.now parcel ≡ no_page) (λ page. page_at words.now parcel ≡ sheet_in page.now) }
 {
-    let start = PAGE_WORDS * parcel;
-    page_in(&words[start..start + PAGE_WORDS])
+    let (pages, _) = words.as_chunks();
+    pages.get(parcel)
 }
 
 // The page of a parcel's number; past the end of the memory there is none, and so no land.
 pub fn read_page(words: &[u64], parcel: usize) -> Page
     ensures { sheet result ≡ page_at words.now parcel }
 {
-    if parcel < pages_room(words) {
-        page_within(words, parcel)
-    } else {
-        Page::vacant(false, 0, 0)
+    match page_words(words, parcel) {
+        Some(words) => page_in(words),
+        None => Page::vacant(false, 0, 0),
     }
 }
 
-fn put_within(words: &mut [u64], parcel: usize, page: &Page)
-    requires { parcel < room words.old }
-    ensures words { words.new ≡ put_page words.old parcel (sheet page.now) }
-    ensures register { page_at words.new ≡ put_kept (room words.old) parcel (sheet page.now) (page_at words.old) }
+// Where a page starts. One past the end starts behind the last, where there is no room for it.
+fn page_start(words: &[u64], parcel: usize) -> usize
+    ensures { result ≡ 132 * min parcel (room words.now) }
 {
-    let start = PAGE_WORDS * parcel;
-    put_words(&mut words[start..start + PAGE_WORDS], page);
+    PAGE_WORDS * parcel.min(pages_room(words))
+}
+
+// Writes the first page of some words, if they have room for one.
+fn put_first(words: &mut [u64], page: &Page)
+    ensures words { words.new ≡ put_page words.old 0 (sheet page.now) }
+    ensures fits { 0 < room words.old → FitsSheet (sheet page.now) }
+{
+    if let Some(first) = words.first_chunk_mut() {
+        put_words(first, page);
+    }
 }
 
 // Just the words of that page are written, and what was written is read back; past the end nothing is.
@@ -46,7 +54,6 @@ pub fn write_page(words: &mut [u64], parcel: usize, page: Page)
     ensures words { words.new ≡ put_page words.old parcel (sheet page) }
     ensures register { page_at words.new ≡ put_kept (room words.old) parcel (sheet page) (page_at words.old) }
 {
-    if parcel < pages_room(words) {
-        put_within(words, parcel, &page);
-    }
+    let start = page_start(words, parcel);
+    put_first(&mut words[start..], &page);
 }

@@ -1,16 +1,17 @@
 // A page as words of memory, one field to a word, and back. Reading takes any words: each field is cut to its type.
-ghost use Rattle.std.specs.Prelude.{◌≡◌, ◌^◌, ◌<◌, ◌≤◌, min, length, take, slice_index};
+ghost use Rattle.std.specs.Prelude.{◌≡◌, ◌^◌, ◌<◌, ◌≤◌, length, take, drop, IfSome, slice_get, ℕ};
+ghost use Rattle.std.specs.List.{flat_map};
 ghost use Rattle.entries.specs.Sheet.{sheet};
-ghost use Rattle.pages.specs.Words.{entry_in, entries_in, FitsEntry, FitsSheet, head_words, place_words, sheet_in, sheet_words};
+ghost use Rattle.pages.specs.Words.{entry_in, entries_in, FitsEntry, FitsSheet, head_words, place_words, places, sheet_in, sheet_words};
 
 use entries::entry::{BLANK, Claim, Entry};
 use entries::page::{MOST_ENTRIES, Page};
+use std::array;
 
 pub const PAGE_WORDS: usize = 132;
 
 // The entry in four words.
-fn entry_in(words: &[u64]) -> Entry
-    requires { 4 ≤ length words.now }
+fn entry_in(words: &[u64; 4]) -> Entry
     ensures { result ≡ entry_in words.now }
 {
     let claim = if words[2] == 1 {
@@ -25,47 +26,42 @@ fn entry_in(words: &[u64]) -> Entry
     }
 }
 
-// So many entries from their words, the best rank first; the places behind them are blank.
-fn entries_in(words: &[u64], count: usize) -> [Entry; MOST_ENTRIES]
-    requires { (length words.now ≡ 128) × (count ≤ 32) }
+fn entry_at(places: &[[u64; 4]], i: usize) -> Entry
+    ensures { IfSome (slice_get places.now i) (λ place. result ≡ entry_in place) }
+{
+    places.get(i).map_or(BLANK, entry_in)
+}
+
+// So many entries, the best rank first; the places behind them are blank.
+fn entries_in(words: &[u64; PAGE_WORDS], count: usize) -> [Entry; MOST_ENTRIES]
+    requires { count ≤ 32 }
     ensures places { length result ≡ 32 }
-    ensures read { take count result ≡ entries_in count words.now }
+    ensures read { take count result ≡ entries_in count (drop 4 words.now) }
 {
-    let mut entries = [BLANK; MOST_ENTRIES];
-    for i in 0..count {
-        entries[i] = entry_in(&words[4 * i..4 * i + 4]);
-    }
-    entries
+    let (places, _) = words[4..].as_chunks::<4>();
+    let standing = &places[..count];
+    array::from_fn(|i| entry_at(standing, i))
 }
 
-// Words may say anything, and a page has at most 32 entries.
-fn count_in(words: &[u64]) -> usize
-    requires { length words.now ≡ 132 }
-    ensures { result ≡ min (slice_index words.now 3) 32 }
-{
-    words[3].min(32) as usize
-}
-
-// The page in 132 words.
-pub(crate) fn page_in(words: &[u64]) -> Page
-    requires { length words.now ≡ 132 }
+pub(crate) fn page_in(words: &[u64; PAGE_WORDS]) -> Page
     ensures { sheet result ≡ sheet_in words.now }
 {
-    let count = count_in(words);
+    // words may say anything, and a page has at most 32 entries
+    let count = words[3].min(32) as usize;
     Page {
         live: words[0] == 1,
         owner: (words[1] % 0x1_0000_0000) as u32,
         area: words[2],
         count,
-        entries: entries_in(&words[4..PAGE_WORDS], count),
+        entries: entries_in(words, count),
     }
 }
 
-fn place_words(entry: Option<Entry>) -> [u64; 4]
-    ensures words { result ≡ place_words entry }
-    ensures fits { FitsEntry entry }
+fn place_words(entries: &[Entry], i: usize) -> [u64; 4]
+    ensures words { result ≡ place_words (slice_get entries.now i) }
+    ensures fits { FitsEntry (slice_get entries.now i) }
 {
-    let Some(entry) = entry else {
+    let Some(entry) = entries.get(i) else {
         return [0; 4];
     };
     let number = entry.number as u64;
@@ -74,6 +70,20 @@ fn place_words(entry: Option<Entry>) -> [u64; 4]
         Claim::Charge(amount) => [number, holder, 0, amount],
         Claim::Reserved => [number, holder, 1, 0],
     }
+}
+
+// A place that no entry has is zero.
+fn places_of(page: &Page) -> [[u64; 4]; MOST_ENTRIES]
+    ensures words { flat_map (λ words. words) result ≡ places 32 (sheet page.now).entries }
+    ensures fits { (i : ℕ) → i < 32 → FitsEntry (slice_get (sheet page.now).entries i) }
+{
+    let standing = &page.entries[..page.count];
+    array::from_fn(
+        |i| -> [u64; 4]
+            ensures words { result ≡ place_words (slice_get standing.entry.now i) }
+            ensures fits { FitsEntry (slice_get standing.entry.now i) }
+        { place_words(standing, i) },
+    )
 }
 
 fn head_words(page: &Page) -> [u64; 4]
@@ -89,14 +99,11 @@ fn head_words(page: &Page) -> [u64; 4]
     ]
 }
 
-// The words of a page, all of them: those of the places that no entry has are zero.
-pub(crate) fn put_words(words: &mut [u64], page: &Page)
-    requires { length words.old ≡ 132 }
+// The words of a page, all of them.
+pub(crate) fn put_words(words: &mut [u64; PAGE_WORDS], page: &Page)
     ensures words { words.new ≡ sheet_words (sheet page.now) }
     ensures fits { FitsSheet (sheet page.now) }
 {
-    words[0..4].copy_from_slice(&head_words(page));
-    for i in 0..MOST_ENTRIES {
-        words[4 * i + 4..4 * i + 8].copy_from_slice(&place_words(page.entry(i)));
-    }
+    words[..4].copy_from_slice(&head_words(page));
+    words[4..].copy_from_slice(places_of(page).as_flattened());
 }
