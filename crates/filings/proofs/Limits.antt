@@ -2,11 +2,11 @@
 use Rattle.std.proofs.Common.{arith, ℕ, ◌≤◌, List, take, Some, None, Ok, Err, Option, Result, subst}
 use Rattle.std.proofs.lemmas.Bool.Decides.{nat_tests}
 use Rattle.std.specs.Result.{result_ok}
-use Rattle.pages.specs.Bytes.{two, four}
+use Rattle.pages.specs.Bytes.{eight, four, two}
 use Rattle.pages.specs.declared.refusal.Refusal.{Refusal}
 use Rattle.filings.specs.Keeping.{kept_at, kept_in, length_kept, slot_at}
 use Rattle.filings.specs.Laws.{Limits}
-use Rattle.filings.specs.Reading.{WithinLimits, at_most, eight, fields, kind_in, limited, of_kind, reading}
+use Rattle.filings.specs.Reading.{WithinLimits, at_most, fields, kind_in, limited, of_kind, reading}
 use Rattle.filings.specs.declared.filing.Filing.{Filing}
 use Rattle.filings.specs.declared.filing.Filing.TheVariants as filing
 use Rattle.filings.specs.declared.kind.Kind.{Kind}

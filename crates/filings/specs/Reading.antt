@@ -1,6 +1,6 @@
 -- The bytes of a filing: its kind, then its fields, low byte first. Assumes nothing.
-use Rattle.std.specs.Prelude.{ℕ, ◌+◌, ◌*◌, ◌≤◌, cond, List, length, Some, None, Ok, Err, Option, Result, ◌==◌, nat_le}
-use Rattle.pages.specs.Bytes.{byte, two, four}
+use Rattle.std.specs.Prelude.{ℕ, ◌≤◌, cond, List, length, Some, None, Ok, Err, Option, Result, ◌==◌, nat_le}
+use Rattle.pages.specs.Bytes.{byte, eight, four, two}
 use Rattle.pages.specs.declared.refusal.Refusal.{Refusal}
 use Rattle.pages.specs.declared.refusal.Refusal.TheVariants as refusal
 use Rattle.filings.specs.Kind.{kind_numbered, length_of}
@@ -8,9 +8,6 @@ use Rattle.filings.specs.declared.filing.Filing.{Filing}
 use Rattle.filings.specs.declared.filing.Filing.TheVariants as filing
 use Rattle.filings.specs.declared.kind.Kind.{Kind}
 use Rattle.filings.specs.declared.kind.Kind.TheVariants.{Transfer, Charge, Reserve, Fill, Release, Postpone, Subdivide, Merge}
-
-abbrev pub eight : List ℕ → ℕ → ℕ
-eight bs at = four bs at + four bs (at + 4) * 4294967296
 
 -- the empty filing has no kind: its first byte counts as 0
 abbrev pub kind_in : List ℕ → Option Kind

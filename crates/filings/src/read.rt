@@ -2,12 +2,12 @@
 ghost use Rattle.std.specs.Prelude.{◌≡◌, length, MatchOption, ◌≢◌};
 ghost use Rattle.std.specs.Bool.{then_some};
 ghost use Rattle.std.specs.Ordering.{partial_le};
-ghost use Rattle.pages.specs.Bytes.{four};
-ghost use Rattle.filings.specs.Reading.{at_most, eight, fields, kind_in, reading};
+ghost use Rattle.pages.specs.Bytes.{eight, four};
+ghost use Rattle.filings.specs.Reading.{at_most, fields, kind_in, reading};
 
 use crate::filing::Filing;
 use crate::kind::Kind;
-use pages::bytes::{four_at, two_at};
+use pages::bytes::{eight_at, four_at, two_at};
 use pages::opening::MOST_AREA;
 use pages::refusal::Refusal;
 
@@ -31,15 +31,7 @@ fn at_most<T: PartialOrd + Copy>(value: T, most: T) -> Option<T>
     (value <= most).then_some(value)
 }
 
-// Low half first, as all numbers; no offset in a filing needs more than a byte.
-fn eight_at(bytes: &[u8], at: u8) -> u64
-    ensures { result ≡ eight bytes.now at }
-{
-    let at = at as u32;
-    four_at(bytes, at) as u64 + 0x1_0000_0000 * four_at(bytes, at + 4) as u64
-}
-
-fn amount_at(bytes: &[u8], at: u8) -> Option<u64>
+fn amount_at(bytes: &[u8], at: u32) -> Option<u64>
     ensures { result ≡ at_most 1000000000000000 (eight bytes.now at) }
 {
     at_most(eight_at(bytes, at), MOST_AMOUNT)

@@ -77,7 +77,7 @@ fn places_of(page: &Page) -> [[u64; 4]; MOST_ENTRIES]
     ensures words { flat_map (λ words. words) result ≡ places 32 (sheet page.now).entries }
     ensures fits { (i : ℕ) → i < 32 → FitsEntry (slice_get (sheet page.now).entries i) }
 {
-    let standing = &page.entries[..page.count];
+    let standing = page.standing();
     array::from_fn(
         |i| -> [u64; 4]
             ensures words { result ≡ place_words (slice_get standing.entry.now i) }

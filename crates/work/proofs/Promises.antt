@@ -24,7 +24,7 @@ use Rattle.work.specs.Asking.{told}
 use Rattle.work.specs.Calls.{image_filed, number_given, state_filed, state_worked, taking_in}
 use Rattle.work.specs.Listed.{filed_in, marks_in}
 use Rattle.work.specs.Promises.{Begun, Files, From, Onward, Promised}
-use Rattle.work.specs.State.{Image, State, desk_in, state_in}
+use Rattle.work.specs.State.{Image, State, state_in}
 
 module _ (bytes : List ℕ) (ys : List (Numbered Filing)) (s : State) (from : From bytes ys s) where
   came : Reached (acts s.parcels) (opened_page s.parcels bytes) s.desk

@@ -1,7 +1,7 @@
 // The registry's calls: it is opened, takes filings in, and works them by the rule.
 ghost use Rattle.std.specs.Prelude.{◌≡◌, [], IfOk};
 ghost use Rattle.orders.specs.Desk.{logged};
-ghost use Rattle.pages.specs.Opening.{opening};
+ghost use Rattle.pages.specs.Opening.{opening as opened};
 ghost use Rattle.pages.specs.Register.{page_at};
 ghost use Rattle.steps.specs.Acting.{acts};
 ghost use Rattle.work.specs.Asking.{answer_to};
@@ -12,6 +12,7 @@ ghost use Rattle.work.specs.State.{image_of, state_of};
 use crate::memory::Memory;
 use crate::registry::Registry;
 use entering::outcome::Outcome;
+use pages::opening::Opening;
 use pages::refusal::Refusal;
 
 impl<'a> Registry<'a> {
@@ -33,15 +34,15 @@ impl<'a> Registry<'a> {
 
 impl Registry<'_> {
     // Opens the register with its parcels; what was filed before is forgotten.
-    pub fn open(&mut self, parcels: u16, pages: &[u8]) -> Result<(), Refusal>
-        ensures answer { result ≡ opening parcels pages.now self.old.memory.pages.now }
-        ensures image { image_of self.new ≡ image_opened result parcels pages.now (image_of self.old) }
-        ensures state { state_of self.new ≡ state_opened result parcels pages.now (state_of self.old) }
-        ensures reached { IfOk result (λ _. From pages.now [] (state_of self.new)) }
-        ensures promised { IfOk result (λ _. Promised pages.now [] (state_of self.new)) }
+    pub fn open(&mut self, opening: Opening) -> Result<(), Refusal>
+        ensures answer { result ≡ opened opening.entry.parcels opening.entry.pages.now self.old.memory.pages.now }
+        ensures image { image_of self.new ≡ image_opened result opening.entry.parcels opening.entry.pages.now (image_of self.old) }
+        ensures state { state_of self.new ≡ state_opened result opening.entry.parcels opening.entry.pages.now (state_of self.old) }
+        ensures reached { IfOk result (λ _. From opening.entry.pages.now [] (state_of self.new)) }
+        ensures promised { IfOk result (λ _. Promised opening.entry.pages.now [] (state_of self.new)) }
     {
-        self.memory.open(parcels, pages)?;
-        self.begin(parcels);
+        self.memory.open(opening)?;
+        self.begin(opening.parcels);
         Ok(())
     }
 

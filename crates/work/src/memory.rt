@@ -6,7 +6,7 @@ ghost use Rattle.pages.specs.Register.{page_at, room};
 ghost use Rattle.filings.specs.Touches.{first_made};
 ghost use Rattle.entering.specs.Entering.{act, entered, outcome, words_after};
 ghost use Rattle.filings.specs.Keeping.{kept_at, kept_in, put_kept, put_slot, slot_of, slots_in};
-ghost use Rattle.pages.specs.Opening.{checked, opening, register_opened, words_opened};
+ghost use Rattle.pages.specs.Opening.{checked, opening as opened, register_opened, words_opened};
 ghost use Rattle.work.specs.Listed.{filed_in, marks_in};
 ghost use Rattle.work.specs.Marks.{mark_byte, mark_of};
 
@@ -15,7 +15,7 @@ use entering::enter::enter;
 use entering::outcome::Outcome;
 use filings::filed::Filed;
 use filings::slots::put_slot;
-use pages::opening::open_pages;
+use pages::opening::{Opening, open_pages};
 use pages::refusal::Refusal;
 
 #[derive(Drop)]
@@ -55,17 +55,17 @@ impl Memory<'_> {
     }
 
     // Writes every page that there is room for, or refuses and writes nothing.
-    pub(crate) fn open(&mut self, parcels: u16, pages: &[u8]) -> Result<(), Refusal>
-        ensures answer { result ≡ opening parcels pages.now self.old.pages.now }
-        ensures pages { self.new.pages.now ≡ words_opened result parcels pages.now self.old.pages.now }
-        ensures register { page_at self.new.pages.now ≡ register_opened result parcels pages.now (page_at self.old.pages.now) }
+    pub(crate) fn open(&mut self, opening: Opening) -> Result<(), Refusal>
+        ensures answer { result ≡ opened opening.entry.parcels opening.entry.pages.now self.old.pages.now }
+        ensures pages { self.new.pages.now ≡ words_opened result opening.entry.parcels opening.entry.pages.now self.old.pages.now }
+        ensures register { page_at self.new.pages.now ≡ register_opened result opening.entry.parcels opening.entry.pages.now (page_at self.old.pages.now) }
         ensures filings { self.new.filings.now ≡ self.old.filings.now }
         ensures marks { self.new.marks.now ≡ self.old.marks.now }
-        ensures room { OnOk result (parcels ≤ room self.new.pages.now) }
-        ensures checked { OnOk result (checked parcels pages.now ≡ Ok tt) }
+        ensures room { OnOk result (opening.entry.parcels ≤ room self.new.pages.now) }
+        ensures checked { OnOk result (checked opening.entry.parcels opening.entry.pages.now ≡ Ok tt) }
         ensures same_room { room self.new.pages.now ≡ room self.old.pages.now }
     {
-        open_pages(self.pages, parcels, pages)
+        open_pages(self.pages, opening)
     }
 
     // Keeps the bytes of a filing under its number, open.
