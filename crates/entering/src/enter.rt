@@ -27,13 +27,14 @@ struct Desk<'a> {
 
 impl Desk<'_> {
     // The page of a parcel that is there and live.
+    #[tactic(auto, using(pages::proofs::Registers::live_within))]
     fn live_page(&self, parcel: u16) -> Result<Page, Rejection>
         ensures page { result_map_both sheet (λ e. e) result ≡ if_live (page_at self.now.words.now parcel) (Ok (page_at self.now.words.now parcel)) }
         ensures read { IfOk result (λ page. sheet page ≡ page_at self.now.words.now parcel) }
         ensures live { OnOk result ((page_at self.now.words.now parcel).live ≡ true) }
         ensures within { OnOk result (parcel < room self.now.words.now) }
     {
-        let page = read_page(self.words, parcel as usize);
+        let page = read_page(self.words, usize::from(parcel));
         if !page.live() {
             return Err(Rejection::NotLive);
         }
@@ -60,7 +61,7 @@ impl Desk<'_> {
     {
         let page = self.live_page(parcel)?;
         let made = act(page)?;
-        self.write(parcel as usize, made);
+        self.write(usize::from(parcel), made);
         Ok(())
     }
 
@@ -72,7 +73,7 @@ impl Desk<'_> {
         divisible(&page, owner, area)?;
         let first = self.first;
         let rest = page.area() - u64::from(area);
-        self.write(parcel as usize, page.closed());
+        self.write(usize::from(parcel), page.closed());
         self.write(first, page.made_of(owner, u64::from(area)));
         self.write(first + 1, page.made_of(owner, rest));
         Ok(())
@@ -87,8 +88,8 @@ impl Desk<'_> {
         mergeable(parcel, other, &page, &other_page, owner)?;
         let first = self.first;
         let area = page.area().saturating_add(other_page.area());
-        self.write(parcel as usize, page.closed());
-        self.write(other as usize, other_page.closed());
+        self.write(usize::from(parcel), page.closed());
+        self.write(usize::from(other), other_page.closed());
         self.write(first, page.made_of(owner, area));
         Ok(())
     }

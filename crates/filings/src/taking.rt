@@ -27,10 +27,10 @@ pub fn take_in(slots: &mut [u8], count: u16, bytes: &[u8]) -> Result<Filing, Ref
     ensures memory { slots.new ≡ memory_after result slots.old count bytes.now }
     ensures kept { kept_at slots.new ≡ kept_after result count (kept_at slots.old) }
 {
-    if count < MOST_FILINGS && count as usize >= slots_room(slots) {
+    if count < MOST_FILINGS && usize::from(count) >= slots_room(slots) {
         return Err(Refusal::Short(Lent::Filings));
     }
     let filing = admit(count, bytes)?;
-    put_slot(slots, count as usize, bytes);
+    put_slot(slots, usize::from(count), bytes);
     Ok(filing)
 }

@@ -24,7 +24,7 @@ impl<'a> Opening<'a> {
     fn owner_and_area(self, parcel: u16) -> (u32, u32)
         ensures { result ≡ (owner_in self.entry.pages.now parcel, area_in self.entry.pages.now parcel) }
     {
-        let start = 8 * parcel as u32;
+        let start = 8 * u32::from(parcel);
         (four_at(self.pages, start), four_at(self.pages, start + 4))
     }
 
@@ -42,7 +42,7 @@ impl<'a> Opening<'a> {
         if self.parcels == 0 || self.parcels > MOST_PARCELS {
             return Err(Refusal::Parcels);
         }
-        if self.pages.len() != 8 * self.parcels as usize {
+        if self.pages.len() != 8 * usize::from(self.parcels) {
             return Err(Refusal::Pages(self.pages.len()));
         }
         (0..self.parcels)
@@ -54,11 +54,11 @@ impl<'a> Opening<'a> {
     fn page(self, parcel: usize) -> Page
         ensures { sheet result ≡ opened_page self.entry.parcels self.entry.pages.now parcel }
     {
-        if parcel >= self.parcels as usize {
+        if parcel >= usize::from(self.parcels) {
             return Page::vacant(false, 0, 0);
         }
         let (owner, area) = self.owner_and_area(parcel as u16);
-        Page::vacant(true, owner, area as u64)
+        Page::vacant(true, owner, u64::from(area))
     }
 }
 
@@ -79,7 +79,7 @@ pub fn open_pages(words: &mut [u64], opening: Opening) -> Result<(), Refusal>
     ensures words { words.new ≡ words_opened result opening.entry.parcels opening.entry.pages.now words.old }
     ensures register { page_at words.new ≡ register_opened result opening.entry.parcels opening.entry.pages.now (page_at words.old) }
 {
-    if pages_room(words) < opening.parcels as usize {
+    if pages_room(words) < usize::from(opening.parcels) {
         return Err(Refusal::Short(Lent::Pages));
     }
     opening.check()?;

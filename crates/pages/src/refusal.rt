@@ -67,10 +67,10 @@ impl Refusal {
     {
         match self {
             Refusal::Pages(bytes) => bytes,
-            Refusal::Area(parcel) => parcel as usize,
+            Refusal::Area(parcel) => usize::from(parcel),
             Refusal::Length(length) => length,
             Refusal::Amount(byte) => byte,
-            Refusal::Waits(filing) => filing as usize,
+            Refusal::Waits(filing) => usize::from(filing),
             Refusal::Short(part) => part as usize,
             _ => 0,
         }

@@ -4,27 +4,26 @@ use Rattle.orders.proofs.Accepted.{first_is_ready, goes_is_accepted}
 use Rattle.orders.proofs.Decided.{only_done_counts}
 use Rattle.orders.proofs.History.{worked_in_order}
 use Rattle.orders.proofs.Reached.{first_is, order_of_work_unseen, reached, untouched_is_final}
-use Rattle.orders.specs.Desk.{Answer, Desk, Reached, ReachedBy, absent, finished, waits, ready, asked, by_filing, by_opening, by_work, first_open, if_ready, logged, open_at, opened, work}
+use Rattle.orders.specs.Desk.{Answer, Reached, ReachedBy, absent, finished, waits, ready, asked, by_filing, by_opening, by_work, first_open, if_ready, logged, open_at, opened, work}
 use Rattle.orders.specs.Laws.{AsFiled}
 use Rattle.orders.specs.Orders.{Numbered}
 use Rattle.entries.specs.Order.{all_below, distinct}
-use Rattle.entries.specs.Sheet.{Sheet}
-use Rattle.entering.specs.declared.outcome.Outcome.{Outcome}
 use Rattle.entries.specs.Rank.{ahead, has, numbers}
 use Rattle.pages.specs.Opening.{checked, opened_page}
 use Rattle.pages.specs.Register.{page_at}
 use Rattle.pages.specs.declared.refusal.Refusal.{Refusal}
+use Rattle.filings.specs.declared.filed.Filed.{Filed}
 use Rattle.filings.specs.declared.filing.Filing.{Filing}
 use Rattle.steps.proofs.Locals.{filings_are_local}
 use Rattle.steps.proofs.Opening.{no_entries}
 use Rattle.steps.proofs.Ranks.{rank_kept}
 use Rattle.steps.proofs.Run.{from_an_opening_on}
 use Rattle.steps.specs.Acting.{acts}
-use Rattle.work.specs.Asking.{told}
-use Rattle.work.specs.Calls.{image_filed, number_given, state_filed, state_worked, taking_in}
+use Rattle.work.specs.Asking.{answer_to, told}
+use Rattle.work.specs.Calls.{answered, image_filed, image_worked, number_given, state_filed, state_worked, taking_in}
 use Rattle.work.specs.Listed.{filed_in, marks_in}
-use Rattle.work.specs.Promises.{Begun, Files, From, Onward, Promised}
-use Rattle.work.specs.State.{Image, State, state_in}
+use Rattle.work.specs.Promises.{Begun, Files, From, Onward, Promised, Works}
+use Rattle.work.specs.State.{Image, State, desk_in, state_in}
 
 module _ (bytes : List ℕ) (ys : List (Numbered Filing)) (s : State) (from : From bytes ys s) where
   came : Reached (acts s.parcels) (opened_page s.parcels bytes) s.desk
@@ -101,17 +100,18 @@ begun P bytes im after is pages ok =
     record { state = state; reached = from; promised = promised bytes [] (state_in after) from }
 
 -- what is refused changes nothing
-unchanged : (P n : ℕ) (e : Refusal) (d : Desk Sheet Filing Outcome) (x : Answer Filing) → told P n x ≡ Err e → if_ready (acts P) d n x ≡ d
-unchanged P n e d absent is = refl
-unchanged P n e d finished is = refl
-unchanged P n e d (waits i) is = refl
-unchanged P n e d (ready f) is = absurd (let z : ◌≡◌ {A = ℕ} 0 1 = cc in omega arith)
+unchanged :
+    (im : Image) (n : ℕ) (e : Refusal) (x : Answer Filing) → Err e ≡ told im.parcels n x →
+    (Err e ≡ answered im.parcels n (page_at im.pages) x) × (im ≡ image_worked n x im) × (desk_in im ≡ if_ready (acts im.parcels) (desk_in im) n x)
+unchanged im n e absent is = (cc, refl, refl)
+unchanged im n e finished is = (cc, refl, refl)
+unchanged im n e (waits i) is = (cc, refl, refl)
+unchanged im n e (ready f) is = absurd (let z : ◌≡◌ {A = ℕ} 0 1 = cc in omega arith)
 
-pub work_refused : (P n : ℕ) (e : Refusal) (d : Desk Sheet Filing Outcome) → told P n (asked (acts P) d n) ≡ Err e → work (acts P) d n ≡ d
+pub not_worked : (im : Image) (n : ℕ) (x : Result Filed Refusal) → x ≡ told im.parcels n (answer_to im n) → IfErr x (λ e. Works (Err e) n im im)
 unfolding work
-work_refused P n e d is = unchanged P n e d (asked (acts P) d n) is
-
-pub onward_refused :
-    (P n : ℕ) (e : Refusal) (d : Desk Sheet Filing Outcome) → told P n (asked (acts P) d n) ≡ Err e →
-    Onward (record { parcels = P; desk = d }) (record { parcels = P; desk = d }) (logged (acts P) (asked (acts P) d n) n)
-onward_refused P n e d is = onward_worked (record { parcels = P; desk = d }) _ n (λ i. record { parcels = P; desk = sym (work_refused P n e d is) i })
+not_worked im n (Ok f) is = tt
+not_worked im n (Err e) is =
+    let same = unchanged im n e (answer_to im n) is in
+    let state : state_in im ≡ state_worked n (state_in im) = λ i. record { parcels = im.parcels; desk = same.2 i } in
+    record { answer = same.0; image = same.1; state = state; onward = onward_worked (state_in im) (state_in im) n state }

@@ -1,11 +1,13 @@
 -- What work makes of the state, from what it makes of the memory. Assumes nothing.
-use Rattle.std.proofs.Common.{◌≡◌, ℕ, ◌<◌, length, set, Some, Ok, sym, refl, ap, ◌∙◌, arith}
+use Rattle.std.proofs.Common.{◌≡◌, ℕ, ◌<◌, ◌≤◌, ◌+◌, false, List, length, set, Some, Ok, sym, refl, ap, ◌∙◌, arith}
 use Rattle.orders.specs.Desk.{Answer, absent, asked, finished, if_ready, ready, waits, work}
-use Rattle.pages.specs.Register.{page_at}
+use Rattle.std.proofs.lemmas.Bool.{le-ltb}
+use Rattle.pages.specs.Register.{page_at, room}
 use Rattle.filings.specs.Keeping.{kept_at}
 use Rattle.filings.specs.declared.filed.Filed.{Filed}
 use Rattle.filings.specs.declared.filing.Filing.{Filing}
-use Rattle.entering.specs.Entering.{entered, outcome}
+use Rattle.filings.specs.Touches.{first_made}
+use Rattle.entering.specs.Entering.{entered, outcome, short_of_room}
 use Rattle.entering.specs.declared.outcome.Outcome.{Outcome}
 use Rattle.entering.specs.declared.outcome.Outcome.TheVariants.{Entered, Rejected}
 use Rattle.entering.specs.declared.outcome.Rejection.TheVariants.{NotLive, NotOwner, NoEntry, Area, Itself, Unlike, Full}
@@ -52,3 +54,7 @@ told_of P n filed absent e = absurd (let z : ◌≡◌ {A = ℕ} 0 1 = cc in ome
 told_of P n filed finished e = absurd (let z : ◌≡◌ {A = ℕ} 0 1 = cc in omega arith)
 told_of P n filed (waits i) e = absurd (let z : ◌≡◌ {A = ℕ} 0 1 = cc in omega arith)
 told_of P n filed (ready f) e = let same : filed ≡ numbered P n f = cc in (ap (λ (x : Filed). ready x.filing) same, ap (λ (x : Filed). x.parcels) same)
+
+-- where there is room, no filing is short of it
+pub enough : (P n : ℕ) (ws : List ℕ) → first_made P n + 2 ≤ room ws → short_of_room P n ws ≡ false
+enough P n ws h = le-ltb _ _ (omega arith)

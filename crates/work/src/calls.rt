@@ -58,14 +58,13 @@ impl Registry<'_> {
     }
 
     // Works a filing, if it is there, still open, and no earlier open one shares a page with it.
-    #[tactic(auto, using(crate::proofs::Promises::work_refused, crate::proofs::Promises::onward_refused))]
     pub fn work(&mut self, number: u16) -> Result<Outcome, Refusal>
         ensures answer { result ≡ answered self.old.parcels number (page_at self.old.memory.pages.now) (answer_to (image_of self.old) number) }
         ensures image { image_of self.new ≡ image_worked number (answer_to (image_of self.old) number) (image_of self.old) }
         ensures state { state_of self.new ≡ state_worked number (state_of self.old) }
         ensures onward { Onward (state_of self.old) (state_of self.new) (logged (acts self.old.parcels) (answer_to (image_of self.old) number) number) }
     {
-        let filed = self.ask(number)?;
+        let filed = self.admit_to_work(number)?;
         self.enter(filed)
     }
 }

@@ -1,5 +1,5 @@
 // What the calls do once it is known that they may.
-ghost use Rattle.std.specs.Prelude.{◌≡◌, ℕ, ◌<◌, ◌≤◌, List, Ok, Err};
+ghost use Rattle.std.specs.Prelude.{◌≡◌, ℕ, ◌<◌, ◌≤◌, List, IfErr, IfOk, Ok, Err};
 ghost use Rattle.orders.specs.Desk.{asked, ready};
 ghost use Rattle.pages.specs.Opening.{checked, opened_page};
 ghost use Rattle.pages.specs.Register.{page_at, room};
@@ -33,6 +33,15 @@ impl Registry<'_> {
         self.memory.keep(number, bytes);
         self.filed = number + 1;
         number
+    }
+
+    // What is refused changes nothing.
+    pub(crate) fn admit_to_work(&self, number: u16) -> Result<Filed, Refusal>
+        ensures answer { result ≡ told self.now.parcels number (answer_to (image_of self.now) number) }
+        ensures below { IfOk result (λ filed. (filed.number ≡ number) × (filed.number < self.now.filed)) }
+        ensures refuses { IfErr result (λ e. Works (Err e) number (image_of self.now) (image_of self.now)) }
+    {
+        self.ask(number)
     }
 
     pub(crate) fn enter(&mut self, filed: Filed) -> Result<Outcome, Refusal>

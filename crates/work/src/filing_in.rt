@@ -16,8 +16,8 @@ impl Registry<'_> {
     fn check_room(&self) -> Result<(), Refusal>
         ensures { result ≡ lacks_room (image_of self.now) }
     {
-        let number = self.filed as usize;
-        if pages_room(self.memory.pages) < self.parcels as usize + 2 * number + 2 {
+        let number = usize::from(self.filed);
+        if pages_room(self.memory.pages) < usize::from(self.parcels) + 2 * number + 2 {
             return Err(Refusal::Short(Lent::Pages));
         }
         if slots_room(self.memory.filings) <= number {

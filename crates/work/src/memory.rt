@@ -26,20 +26,8 @@ pub struct Memory<'a> {
 }
 
 impl Memory<'_> {
-    // Enters a filing on the pages; what came of it is not marked yet.
-    fn enter_pages(&mut self, filed: Filed) -> Result<Outcome, Refusal>
-        requires { first_made filed.parcels filed.number + 2 ≤ room self.old.pages.now }
-        ensures answer { result ≡ Ok (outcome filed.parcels filed.number filed.filing (page_at self.old.pages.now)) }
-        ensures pages { self.new.pages.now ≡ words_after (act (first_made filed.parcels filed.number) filed.number filed.filing (page_at self.old.pages.now)) self.old.pages.now }
-        ensures register { page_at self.new.pages.now ≡ entered filed.parcels filed.number filed.filing (page_at self.old.pages.now) }
-        ensures filings { self.new.filings.now ≡ self.old.filings.now }
-        ensures marks { self.new.marks.now ≡ self.old.marks.now }
-        ensures room { room self.new.pages.now ≡ room self.old.pages.now }
-    {
-        enter(self.pages, filed)
-    }
-
     // Enters a filing and marks what came of it.
+    #[tactic(auto, using(crate::proofs::Working::enough))]
     pub(crate) fn enter(&mut self, filed: Filed) -> Result<Outcome, Refusal>
         requires { (filed.number < length self.old.marks.now) × (first_made filed.parcels filed.number + 2 ≤ room self.old.pages.now) }
         ensures answer { result ≡ Ok (outcome filed.parcels filed.number filed.filing (page_at self.old.pages.now)) }
@@ -49,7 +37,7 @@ impl Memory<'_> {
         ensures marks { self.new.marks.now ≡ slice_set self.old.marks.now filed.number (mark_byte (outcome filed.parcels filed.number filed.filing (page_at self.old.pages.now))) }
         ensures room { room self.new.pages.now ≡ room self.old.pages.now }
     {
-        let outcome = self.enter_pages(filed)?;
+        let outcome = enter(self.pages, filed)?;
         self.marks[usize::from(filed.number)] = mark_byte(outcome);
         Ok(outcome)
     }
