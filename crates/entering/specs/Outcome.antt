@@ -1,9 +1,8 @@
 -- The number of each reason for a rejection, and what comes of a filing that is entered or not. Assumes nothing.
-use Rattle.std.specs.Prelude.{ℕ, cond, List, ◌++◌, Some, None, Option, Ok, Err, Result, ◌==◌, codes, decimal}
+use Rattle.std.specs.Prelude.{ℕ, cond, Some, None, Option, Ok, Err, Result, ◌==◌}
 use Rattle.entering.specs.declared.outcome.Outcome.{Outcome}
 use Rattle.entering.specs.declared.outcome.Outcome.TheVariants.{Entered, Rejected}
 use Rattle.entering.specs.declared.outcome.Rejection.{Rejection}
-use Rattle.entering.specs.declared.outcome.UnknownReason.{UnknownReason}
 use Rattle.entering.specs.declared.outcome.Rejection.TheVariants.{NotLive, NotOwner, NoEntry, Area, Itself, Unlike, Full}
 
 abbrev pub reason_of : Rejection → ℕ
@@ -24,9 +23,6 @@ reason_numbered n =
     (cond (n == 5) (Some Itself)
     (cond (n == 6) (Some Unlike)
     (cond (n == 7) (Some Full) None))))))
-
-abbrev pub unknown_reason_text : UnknownReason → List ℕ
-unknown_reason_text e = codes "no reason for a rejection has the number " ++ decimal e.0
 
 abbrev pub outcome_of : Result (Unit {0}) Rejection → Outcome
 outcome_of (Ok u) = Entered

@@ -1,9 +1,8 @@
 // What comes of a filing that was taken: it is entered, or rejected with the first reason that holds, and then changes nothing.
-ghost use Rattle.std.specs.Prelude.{◌≡◌, ok_or, Some};
-ghost use Rattle.entering.specs.Outcome.{outcome_of, reason_numbered, reason_of, unknown_reason_text};
+ghost use Rattle.std.specs.Prelude.{◌≡◌, ok_or};
+ghost use Rattle.entering.specs.Outcome.{outcome_of, reason_numbered, reason_of};
 
-use std::error::Error;
-use std::fmt;
+use pages::unknown::UnknownNumber;
 
 #[derive(Clone, Copy, PartialEq, Eq, Debug)]
 pub enum Rejection {
@@ -37,16 +36,12 @@ impl Rejection {
     }
 }
 
-// A number that no reason has.
-#[derive(Clone, Copy, PartialEq, Eq, Debug)]
-pub struct UnknownReason(pub u8);
-
 impl TryFrom<u8> for Rejection {
-    type Error = UnknownReason;
+    type Error = UnknownNumber;
 
     ghost try_from_gives = { λ n r. r ≡ ok_or (reason_numbered n) (record { 0 = n }) };
 
-    fn try_from(number: u8) -> Result<Rejection, UnknownReason> {
+    fn try_from(number: u8) -> Result<Rejection, UnknownNumber> {
         match number {
             1 => Ok(Rejection::NotLive),
             2 => Ok(Rejection::NotOwner),
@@ -55,20 +50,10 @@ impl TryFrom<u8> for Rejection {
             5 => Ok(Rejection::Itself),
             6 => Ok(Rejection::Unlike),
             7 => Ok(Rejection::Full),
-            _ => Err(UnknownReason(number)),
+            _ => Err(UnknownNumber(number)),
         }
     }
 }
-
-impl fmt::Display for UnknownReason {
-    ghost output = { λ e. Some (unknown_reason_text e) };
-
-    fn fmt<W: fmt::Write>(&self, f: &mut fmt::Formatter<W>) -> fmt::Result {
-        write!(f, "no reason for a rejection has the number {}", self.0)
-    }
-}
-
-impl Error for UnknownReason {}
 
 impl From<Result<(), Rejection>> for Outcome {
     ghost from_gives = { λ entered outcome. outcome ≡ outcome_of entered };

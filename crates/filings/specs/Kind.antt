@@ -1,8 +1,7 @@
 -- The kinds of filings, 1 to 8, and how many bytes each has. Assumes nothing.
-use Rattle.std.specs.Prelude.{ℕ, cond, List, ◌++◌, Some, None, Option, ◌==◌, codes, decimal}
+use Rattle.std.specs.Prelude.{ℕ, cond, Some, None, Option, ◌==◌}
 use Rattle.filings.specs.declared.kind.Kind.{Kind}
 use Rattle.filings.specs.declared.kind.Kind.TheVariants.{Transfer, Charge, Reserve, Fill, Release, Postpone, Subdivide, Merge}
-use Rattle.filings.specs.declared.kind.UnknownKind.{UnknownKind}
 
 abbrev pub kind_numbered : ℕ → Option Kind
 kind_numbered n =
@@ -24,6 +23,3 @@ length_of Release = 9
 length_of Postpone = 9
 length_of Subdivide = 11
 length_of Merge = 9
-
-abbrev pub unknown_kind_text : UnknownKind → List ℕ
-unknown_kind_text e = codes "no kind of filing has the number " ++ decimal e.0

@@ -1,9 +1,8 @@
 // The kinds of filings: the number of each, and how many bytes it has.
-ghost use Rattle.std.specs.Prelude.{◌≡◌, ok_or, Some};
-ghost use Rattle.filings.specs.Kind.{kind_numbered, length_of, unknown_kind_text};
+ghost use Rattle.std.specs.Prelude.{◌≡◌, ok_or};
+ghost use Rattle.filings.specs.Kind.{kind_numbered, length_of};
 
-use std::error::Error;
-use std::fmt;
+use pages::unknown::UnknownNumber;
 
 #[derive(Clone, Copy, PartialEq, Eq, Debug)]
 pub enum Kind {
@@ -17,16 +16,12 @@ pub enum Kind {
     Merge = 8,
 }
 
-// A number that no kind has.
-#[derive(Clone, Copy, PartialEq, Eq, Debug)]
-pub struct UnknownKind(pub u8);
-
 impl TryFrom<u8> for Kind {
-    type Error = UnknownKind;
+    type Error = UnknownNumber;
 
     ghost try_from_gives = { λ n r. r ≡ ok_or (kind_numbered n) (record { 0 = n }) };
 
-    fn try_from(number: u8) -> Result<Kind, UnknownKind> {
+    fn try_from(number: u8) -> Result<Kind, UnknownNumber> {
         match number {
             1 => Ok(Kind::Transfer),
             2 => Ok(Kind::Charge),
@@ -36,20 +31,10 @@ impl TryFrom<u8> for Kind {
             6 => Ok(Kind::Postpone),
             7 => Ok(Kind::Subdivide),
             8 => Ok(Kind::Merge),
-            _ => Err(UnknownKind(number)),
+            _ => Err(UnknownNumber(number)),
         }
     }
 }
-
-impl fmt::Display for UnknownKind {
-    ghost output = { λ e. Some (unknown_kind_text e) };
-
-    fn fmt<W: fmt::Write>(&self, f: &mut fmt::Formatter<W>) -> fmt::Result {
-        write!(f, "no kind of filing has the number {}", self.0)
-    }
-}
-
-impl Error for UnknownKind {}
 
 impl Kind {
     pub fn length(self) -> usize

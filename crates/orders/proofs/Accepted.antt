@@ -1,5 +1,6 @@
 -- What is ready is worked, and so is every order that goes by the rule. Assumes nothing.
 use Rattle.std.proofs.Common.{◌≡◌, ℕ, zero, suc, ◌+◌, ◌<◌, ◌≤◌, true, false, ◌&&◌, ◌≢◌, List, [], ◌∷◌, length, Some, None, Option, sym, refl, ap, ◌∙◌, ⊎_elim, arith}
+use Rattle.std.proofs.lemmas.Option.{slice_get_past}
 use Rattle.std.proofs.lemmas.Bool.{and_parts, cases_Bool, cases_eq, cases_lt, cond-true, cond-false, true≢false}
 use Rattle.std.specs.List.{slice_get}
 use Rattle.orders.specs.Desk.{Desk, ready, is_open, open_at, shares_with, in_way, way_from, unless_waits, if_open, if_there, asked, worked_on, if_ready, work, is_ready, accepted, ready_from, FirstOpen}
@@ -7,7 +8,7 @@ use Rattle.orders.specs.Laws.{FirstIsReady, Goes, GoesIsAccepted, NeverStuck}
 use Rattle.orders.specs.Orders.{Numbered, Holds, here, there, Before, first, later, Single, one, numbers_of}
 use Rattle.orders.specs.Steps.{Acts, Local}
 use Rattle.orders.proofs.Kept.{Ready}
-use Rattle.orders.proofs.Places.{nth_none, nth_set_same, nth_set_other, nth_there}
+use Rattle.orders.proofs.Places.{nth_set_same, nth_set_other, nth_there}
 use Rattle.orders.proofs.Reached.{kept_reached}
 use Rattle.orders.proofs.Lawfuls.{before_second}
 
@@ -54,7 +55,7 @@ module _ {Page Act Result : Type 0} (w : Acts Page Act Result) (local : Local w)
   -- A DESK AND WHAT IS STILL TO BE WORKED
 
   open_within : (d : Desk Page Act Result) (n : ℕ) → open_at d n ≡ true → n < length d.marks
-  open_within d n o = ⊎_elim (λ h. h) (λ (h : length d.marks ≤ n). absurd (true≢false (sym o ∙ ap is_open (nth_none d.marks n h)))) (cases_lt n (length d.marks))
+  open_within d n o = ⊎_elim (λ h. h) (λ (h : length d.marks ≤ n). absurd (true≢false (sym o ∙ ap is_open (slice_get_past d.marks n h)))) (cases_lt n (length d.marks))
 
   pub first_is_ready : FirstIsReady w
   first_is_ready start d r n lead =

@@ -1,11 +1,12 @@
 -- A desk is decided by what was filed and which of it is done. Assumes nothing.
 use Rattle.std.proofs.Common.{◌≡◌, ℕ, zero, suc, ◌<◌, ◌≤◌, cond, ◌&&◌, List, [], ◌∷◌, length, Some, None, Option, sym, refl, ap, ◌∙◌, subst, ⊎_elim, arith}
+use Rattle.std.proofs.lemmas.Option.{slice_get_past}
 use Rattle.std.proofs.lemmas.Bool.{cases_lt, true≢false}
 use Rattle.std.specs.List.{slice_get}
 use Rattle.orders.specs.Desk.{Desk, Reached, is_open, open_at, open_from, touched_by, turn}
 use Rattle.orders.specs.Laws.{OnlyDoneCounts}
 use Rattle.orders.specs.Steps.{Acts, Local}
-use Rattle.orders.proofs.Places.{nth_none, nth_there}
+use Rattle.orders.proofs.Places.{nth_there}
 use Rattle.orders.proofs.Reached.{kept_reached, order_of_work_unseen}
 
 -- lists that have the same at each place are the same
@@ -52,7 +53,7 @@ module _ {Page Act Result : Type 0} (w : Acts Page Act Result) (local : Local w)
           let x = nth_there d.marks n (omega arith) in
           let y = nth_there e.marks n (omega arith) in
           x.1 ∙ ap Some (same_mark n act.0 act.1 x.0 y.0 x.1 y.1) ∙ sym y.1)
-          (λ (h : length d.filed ≤ n). nth_none d.marks n (omega arith) ∙ sym (nth_none e.marks n (omega arith)))
+          (λ (h : length d.filed ≤ n). slice_get_past d.marks n (omega arith) ∙ sym (slice_get_past e.marks n (omega arith)))
           (cases_lt n (length d.filed))
 
   pub only_done_counts : OnlyDoneCounts w

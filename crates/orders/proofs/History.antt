@@ -1,5 +1,6 @@
 -- What was worked so far, in the order of work: just what is done, and by the rule. Assumes nothing.
 use Rattle.std.proofs.Common.{◌≡◌, ℕ, ◌<◌, ◌≤◌, true, false, ◌≢◌, ◌⊎◌, List, [], ◌∷◌, ◌++◌, length, Some, None, sym, refl, ap, ◌∙◌, subst, inl, inr, ⊎_elim, arith}
+use Rattle.std.proofs.lemmas.Option.{slice_get_within}
 use Rattle.std.proofs.lemmas.List.{length_push}
 use Rattle.std.proofs.lemmas.Bool.{cases_Bool, cases_eq, cases_lt, true≢false}
 use Rattle.std.specs.List.{slice_get}
@@ -9,7 +10,7 @@ use Rattle.orders.specs.Orders.{Numbered, Holds, here, there, Before, first, lat
 use Rattle.orders.specs.Steps.{Acts, Local}
 use Rattle.orders.proofs.Accepted.{closes, leaves}
 use Rattle.orders.proofs.Kept.{Kept, Ready}
-use Rattle.orders.proofs.Places.{nth_front, nth_last, nth_some}
+use Rattle.orders.proofs.Places.{nth_front, nth_last}
 use Rattle.orders.proofs.Reached.{kept_reached, reached, ready_means}
 
 -- ONE MORE AT THE END
@@ -63,7 +64,7 @@ module _ {Page Act Result : Type 0} (w : Acts Page Act Result) (local : Local w)
     new_is_open n e = let l = kept.as_long in ap is_open (nth_last d.marks None n (omega arith))
 
     within : (y : Numbered Act) → Holds y ys → y.number < length d.filed
-    within y h = nth_some d.filed y.number y.act (so_far.filed y h)
+    within y h = slice_get_within d.filed y.number y.act (so_far.filed y h)
 
     on_more : InOrder w (filed_more d a) ys
     on_more = record {
@@ -72,7 +73,7 @@ module _ {Page Act Result : Type 0} (w : Acts Page Act Result) (local : Local w)
           ⊎_elim
           (λ (h : n < length d.filed). so_far.done n b (sym (nth_front d.filed a n h) ∙ e) (sym (open_front n h) ∙ shut))
           (λ (h : length d.filed ≤ n).
-          let there = nth_some (d.filed ++ a ∷ []) n b e in
+          let there = slice_get_within (d.filed ++ a ∷ []) n b e in
           let size = length_push d.filed a in
           let last : n ≡ length d.filed = omega arith in
           absurd (true≢false (sym (new_is_open n last) ∙ shut)))

@@ -1,11 +1,12 @@
 -- What filing and working keep: by pages, without ever reordering a list. Assumes nothing.
 use Rattle.std.proofs.Common.{◌≡◌, ℕ, zero, suc, ◌<◌, ◌≤◌, Bool, true, false, ◌&&◌, [], ◌∷◌, ◌++◌, length, Some, None, Option, sym, refl, ap, ◌∙◌, subst, ⊎_elim, arith}
+use Rattle.std.proofs.lemmas.Option.{slice_get_past, slice_get_within}
 use Rattle.std.proofs.lemmas.List.{length-set, length_push}
 use Rattle.std.proofs.lemmas.Bool.{cases_Bool, cases_eq, cases_lt, true≢false}
 use Rattle.std.specs.List.{slice_get}
 use Rattle.orders.specs.Desk.{Desk, is_open, open_at, opened, filed_more, shares_with, in_way, worked_on, stepped, turn, touched_by}
 use Rattle.orders.specs.Steps.{Acts, Local}
-use Rattle.orders.proofs.Places.{nth_front, nth_last, nth_none, nth_some, nth_set_same, nth_set_other}
+use Rattle.orders.proofs.Places.{nth_front, nth_last, nth_set_same, nth_set_other}
 use Rattle.orders.proofs.Turns.{turn_untouched, turn_more}
 
 module _ {Page Act Result : Type 0} (w : Acts Page Act Result) (local : Local w) where
@@ -60,10 +61,10 @@ module _ {Page Act Result : Type 0} (w : Acts Page Act Result) (local : Local w)
     touch_before i p h = ap (λ o. touched_by w i o p) (nth_front d.filed a i h)
 
     touch_past : (i p : ℕ) → length d.filed < i → touched_by w i (slice_get (filed_more d a).filed i) p ≡ false
-    touch_past i p h = ap (λ o. touched_by w i o p) (nth_none (d.filed ++ a ∷ []) i (simp length_push (omega arith)))
+    touch_past i p h = ap (λ o. touched_by w i o p) (slice_get_past (d.filed ++ a ∷ []) i (simp length_push (omega arith)))
 
     touch_none : (i p : ℕ) → length d.filed ≤ i → touched_by w i (slice_get d.filed i) p ≡ false
-    touch_none i p h = ap (λ o. touched_by w i o p) (nth_none d.filed i h)
+    touch_none i p h = ap (λ o. touched_by w i o p) (slice_get_past d.filed i h)
 
     never : {t : Bool} {X : Type 0} → t ≡ false → t ≡ true → X
     never e f = absurd (true≢false (sym f ∙ e))
@@ -131,7 +132,7 @@ module _ {Page Act Result : Type 0} (w : Acts Page Act Result) (local : Local w)
         ⊎_elim
         (λ (at : n ≡ length d.filed). absurd (let s = nth_last d.marks None n (omega arith) in let z : ◌≡◌ {A = ℕ} 0 1 = cc in omega arith))
         (λ (other : n ≡ length d.filed → ⊥).
-        absurd (never_some (sym (nth_none (d.marks ++ None ∷ []) n (simp length_push (omega arith))) ∙ f)))
+        absurd (never_some (sym (slice_get_past (d.marks ++ None ∷ []) n (simp length_push (omega arith))) ∙ f)))
         (cases_eq n (length d.filed)))
         (cases_lt n (length d.filed))
 
@@ -162,7 +163,7 @@ module _ {Page Act Result : Type 0} (w : Acts Page Act Result) (local : Local w)
 
   module _ (start : ℕ → Page) (d : Desk Page Act Result) (n : ℕ) (a : Act) (kept : Kept start d) (r : Ready d n a) where
     within : n < length d.marks
-    within = let l = kept.as_long in let h = nth_some d.filed n a r.there in omega arith
+    within = let l = kept.as_long in let h = slice_get_within d.filed n a r.there in omega arith
 
     open_other : (i : ℕ) → (i ≡ n → ⊥) → open_at (worked_on w d n a) i ≡ open_at d i
     open_other i other = ap is_open (nth_set_other d.marks n i (Some (w.outcome n a d.register)) other)

@@ -1,5 +1,5 @@
 -- What stands at a place of a list that has grown or changed by one. Assumes nothing.
-use Rattle.std.proofs.Common.{◌≡◌, ℕ, zero, suc, ◌<◌, ◌≤◌, List, [], ◌∷◌, ◌++◌, length, set, Some, None, refl, arith}
+use Rattle.std.proofs.Common.{◌≡◌, ℕ, zero, suc, ◌<◌, List, [], ◌∷◌, ◌++◌, length, set, Some, refl, arith}
 use Rattle.std.specs.List.{slice_get}
 
 module _ {X : Type 0} where
@@ -13,16 +13,6 @@ module _ {X : Type 0} where
   nth_last [] x (suc k) h = absurd (omega arith)
   nth_last (y ∷ xs) x zero h = absurd (omega arith)
   nth_last (y ∷ xs) x (suc k) h = nth_last xs x k (omega arith)
-
-  pub nth_none : (xs : List X) (k : ℕ) → length xs ≤ k → slice_get xs k ≡ None
-  nth_none [] k h = refl
-  nth_none (x ∷ xs) zero h = absurd (omega arith)
-  nth_none (x ∷ xs) (suc k) h = nth_none xs k (omega arith)
-
-  pub nth_some : (xs : List X) (k : ℕ) (x : X) → slice_get xs k ≡ Some x → k < length xs
-  nth_some [] k x h = absurd (let z : ◌≡◌ {A = ℕ} 0 1 = cc in omega arith)
-  nth_some (y ∷ xs) zero x h = omega arith
-  nth_some (y ∷ xs) (suc k) x h = let l = nth_some xs k x h in omega arith
 
   pub nth_there : (xs : List X) (k : ℕ) → k < length xs → (x : X) × (slice_get xs k ≡ Some x)
   nth_there [] k h = absurd (omega arith)

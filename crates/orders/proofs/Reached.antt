@@ -1,5 +1,6 @@
 -- The main theorem: what is reached from an opening is as filed. Assumes nothing.
 use Rattle.std.proofs.Common.{◌≡◌, ℕ, zero, suc, ◌+◌, ◌<◌, ◌≤◌, Bool, true, false, ◌&&◌, List, [], ◌∷◌, length, Some, None, Option, sym, refl, ap, ◌∙◌, subst, ⊎_elim, arith}
+use Rattle.std.proofs.lemmas.Option.{slice_get_past}
 use Rattle.std.proofs.lemmas.Bool.{and_parts, cases_Bool, cases_eq, cases_lt, cond-true, cond-false, true≢false}
 use Rattle.std.specs.List.{slice_get}
 use Rattle.orders.specs.Desk.{Desk, Answer, absent, finished, waits, ready, open_at, in_way, way_from, unless_waits, if_open, if_there, asked, worked_on, if_ready, work, Reached, at_opening, on_filing, on_work, ReachedBy, by_opening, by_filing, by_work, touched_by, open_from, first_open, is_open, worked_all}
@@ -7,7 +8,7 @@ use Rattle.orders.specs.Laws.{AsFiled, OrderOfWorkUnseen, UntouchedIsFinal}
 use Rattle.orders.specs.Orders.{Numbered}
 use Rattle.orders.specs.Steps.{Acts, Local}
 use Rattle.orders.proofs.Kept.{Kept, Ready, kept_opened, kept_filed, kept_worked}
-use Rattle.orders.proofs.Places.{nth_none, nth_set_other}
+use Rattle.orders.proofs.Places.{nth_set_other}
 
 -- which answer it was
 abbrev which : {Act : Type 0} → Answer Act → ℕ
@@ -134,7 +135,7 @@ module _ {Page Act Result : Type 0} (w : Acts Page Act Result) (local : Local w)
           (λ (other : j ≡ f → ⊥). kept.in_turn f j p (omega arith) here.1 t here.0)
           (cases_eq j f))
           (λ (h : length d.filed ≤ f).
-          absurd (true≢false (sym t ∙ ap (λ o. touched_by w j o p) (nth_none d.filed j (omega arith)))))
+          absurd (true≢false (sym t ∙ ap (λ o. touched_by w j o p) (slice_get_past d.filed j (omega arith)))))
           (cases_lt f (length d.filed))
 
   pub order_of_work_unseen : OrderOfWorkUnseen w

@@ -1,5 +1,6 @@
 -- The rule lets through just the lawful orders: from lawful to accepted, and back. Assumes nothing.
 use Rattle.std.proofs.Common.{◌≡◌, ℕ, zero, suc, ◌+◌, ◌-◌, ◌<◌, ◌≤◌, Bool, true, false, not, ◌&&◌, ◌||◌, ◌⊎◌, List, [], ◌∷◌, length, replicate, Some, None, Option, sym, refl, ap, ◌∙◌, subst, inl, inr, ⊎_elim, zero-add, arith}
+use Rattle.std.proofs.lemmas.Option.{slice_get_within}
 use Rattle.std.proofs.lemmas.Bool.{and_parts, cases_Bool, cases_eq, eq-eqb, ne_eqb, true≢false}
 use Rattle.std.specs.List.{slice_get}
 use Rattle.orders.specs.Desk.{Desk, Answer, absent, finished, waits, ready, is_open, open_at, all_open, shares_with, asked, worked_on, work, worked_all, is_ready, accepted}
@@ -10,7 +11,6 @@ use Rattle.orders.proofs.Accepted.{closes, goes_is_accepted, leaves, still_anoth
 use Rattle.orders.proofs.Exchanges.{exchanged_sym, holds_exchanged, single_exchanged}
 use Rattle.orders.proofs.Kept.{Ready}
 use Rattle.orders.proofs.Lawfuls.{Inserted, at, past, taken_out, inserted_length, other_holds, before_first, before_second, lawful_is_exchanged}
-use Rattle.orders.proofs.Places.{nth_some}
 use Rattle.orders.proofs.Reached.{ready_means}
 
 -- ACTS IN THE ORDER OF FILING
@@ -113,7 +113,7 @@ module _ {Page Act Result : Type 0} (w : Acts Page Act Result) (local : Local w)
   none_worked (suc k) (suc n) h = none_worked k n (omega arith)
 
   open_all : (start : ℕ → Page) (fs : List Act) (n : ℕ) (a : Act) → slice_get fs n ≡ Some a → open_at {Result = Result} (all_open start fs) n ≡ true
-  open_all start fs n a e = ap is_open (none_worked (length fs) n (nth_some fs n a e))
+  open_all start fs n a e = ap is_open (none_worked (length fs) n (slice_get_within fs n a e))
 
   shares_some : (x y : Numbered Act) → (Apart w x y → ⊥) → w.shares x.number x.act y.number y.act ≡ true
   shares_some x y share = ⊎_elim (λ t. t) (λ f. absurd (share (record { none = f }))) (cases_Bool (w.shares x.number x.act y.number y.act))

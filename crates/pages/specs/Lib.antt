@@ -3,4 +3,5 @@ pub mod Bytes
 pub mod Opening
 pub mod Refusal
 pub mod Register
+pub mod Unknown
 pub mod Words

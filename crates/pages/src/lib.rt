@@ -5,4 +5,5 @@ pub mod bytes;
 pub mod opening;
 pub mod refusal;
 pub mod register;
+pub mod unknown;
 pub mod words;

@@ -1,11 +1,15 @@
 // The registry at its edges: who waits for whom, what is refused, what may be worked next, memory that is too short.
 use entering::outcome::Outcome;
+use pages::opening::Opening;
 use pages::refusal::{Lent, Refusal};
 use std::process::Abort;
 use std::test::*;
 use work::registry::Registry;
 
-const OPENING: [u8; 16] = [5, 0, 0, 0, 100, 0, 0, 0, 5, 0, 0, 0, 50, 0, 0, 0];
+const OPENING: Opening<'static> = Opening {
+    parcels: 2,
+    pages: &[5, 0, 0, 0, 100, 0, 0, 0, 5, 0, 0, 0, 50, 0, 0, 0],
+};
 
 // the owner 5 hands a parcel to 6
 const FIRST_HANDED: [u8; 11] = [1, 0, 0, 5, 0, 0, 0, 6, 0, 0, 0];
@@ -26,7 +30,7 @@ fn next_ready(registry: &Registry, from: u16) -> Option<u16> {
 }
 
 fn all_filed(rt: &impl Abort, registry: &mut Registry) -> Result<(), Fail> {
-    assert!(rt; registry.open(2, &OPENING).is_ok());
+    assert!(rt; registry.open(OPENING).is_ok());
     assert_eq!(rt; work(registry, 0), Err(Refusal::NotThere));
     assert_eq!(rt; file(registry, &FIRST_HANDED), Ok(0));
     assert_eq!(rt; file(registry, &FIRST_HANDED), Ok(1));

@@ -1,12 +1,32 @@
 // Extracts of the summer's two parcels and of what was made of them, before, amid and after the work.
 use extracts::error::ExtractError;
 use extracts::extract::Extract;
+use pages::opening::Opening;
 use std::alloc::{AllocError, Global};
 use std::process::Abort;
 use std::test::*;
 use work::registry::Registry;
 
-const OPENING: [u8; 16] = [5, 0, 0, 0, 100, 0, 0, 0, 5, 0, 0, 0, 50, 0, 0, 0];
+const OPENING: Opening<'static> = Opening {
+    parcels: 2,
+    pages: &[5, 0, 0, 0, 100, 0, 0, 0, 5, 0, 0, 0, 50, 0, 0, 0],
+};
+
+const SUMMER: [&[u8]; 13] = [
+    &[2, 0, 0, 5, 0, 0, 0, 9, 0, 0, 0, 232, 3, 0, 0, 0, 0, 0, 0],
+    &[3, 0, 0, 5, 0, 0, 0, 7, 0, 0, 0],
+    &[2, 0, 0, 5, 0, 0, 0, 8, 0, 0, 0, 244, 1, 0, 0, 0, 0, 0, 0],
+    &[1, 1, 0, 5, 0, 0, 0, 6, 0, 0, 0],
+    b"\x04\0\0\x05\0\0\0\x07\0\0\0\x01\0\xd0\x07\0\0\0\0\0\0",
+    &[6, 0, 0, 9, 0, 0, 0, 0, 0],
+    &[7, 0, 0, 5, 0, 0, 0, 40, 0, 0, 0],
+    &[1, 14, 0, 5, 0, 0, 0, 6, 0, 0, 0],
+    &[5, 15, 0, 8, 0, 0, 0, 2, 0],
+    &[8, 14, 0, 15, 0, 5, 0, 0, 0],
+    &[2, 0, 0, 5, 0, 0, 0, 4, 0, 0, 0, 1, 0, 0, 0, 0, 0, 0, 0],
+    &[8, 15, 0, 15, 0, 5, 0, 0, 0],
+    &[8, 14, 0, 1, 0, 6, 0, 0, 0],
+];
 
 const RANKED: &str = "parcel 0 owner 5 area 100 live
 0 holder 9 charge 1000
@@ -47,30 +67,12 @@ fn is_refused(heap: Global, registry: &Registry<'_>, parcel: u16) -> bool {
     }
 }
 
-fn summer(number: u16) -> &'static [u8] {
-    match number {
-        0 => &[2, 0, 0, 5, 0, 0, 0, 9, 0, 0, 0, 232, 3, 0, 0, 0, 0, 0, 0],
-        1 => &[3, 0, 0, 5, 0, 0, 0, 7, 0, 0, 0],
-        2 => &[2, 0, 0, 5, 0, 0, 0, 8, 0, 0, 0, 244, 1, 0, 0, 0, 0, 0, 0],
-        3 => &[1, 1, 0, 5, 0, 0, 0, 6, 0, 0, 0],
-        4 => b"\x04\0\0\x05\0\0\0\x07\0\0\0\x01\0\xd0\x07\0\0\0\0\0\0",
-        5 => &[6, 0, 0, 9, 0, 0, 0, 0, 0],
-        6 => &[7, 0, 0, 5, 0, 0, 0, 40, 0, 0, 0],
-        7 => &[1, 14, 0, 5, 0, 0, 0, 6, 0, 0, 0],
-        8 => &[5, 15, 0, 8, 0, 0, 0, 2, 0],
-        9 => &[8, 14, 0, 15, 0, 5, 0, 0, 0],
-        10 => &[2, 0, 0, 5, 0, 0, 0, 4, 0, 0, 0, 1, 0, 0, 0, 0, 0, 0, 0],
-        11 => &[8, 15, 0, 15, 0, 5, 0, 0, 0],
-        _ => &[8, 14, 0, 1, 0, 6, 0, 0, 0],
-    }
-}
-
 fn filed(registry: &mut Registry<'_>) -> bool {
-    if registry.open(2, &OPENING).is_err() {
+    if registry.open(OPENING).is_err() {
         return false;
     }
-    for number in 0..13 {
-        if registry.file(summer(number)).is_err() {
+    for filing in SUMMER {
+        if registry.file(filing).is_err() {
             return false;
         }
     }

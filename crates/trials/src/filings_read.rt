@@ -1,10 +1,11 @@
 // Filings of each kind at each edge of their length and amount, what is read of them, and what they touch.
 ghost use Rattle.std.specs.Prelude.{◌≤◌};
 
+use filings::filed::Filed;
 use filings::filing::Filing;
 use filings::slots::filing_at;
 use filings::taking::take_in;
-use filings::touched::{Touched, touches};
+use filings::touched::Touched;
 use std::test::*;
 
 // The number and the place of a refusal, or 0 where the bytes are a filing.
@@ -162,6 +163,15 @@ fn what_is_taken_in_is_read_back(rt: HostRuntime) -> Result<(), Fail> {
     Ok(())
 }
 
+// Filing 6 of a register that was opened with two parcels.
+fn sixth(filing: Filing) -> Filed {
+    Filed {
+        parcels: 2,
+        number: 6,
+        filing,
+    }
+}
+
 #[test]
 fn parcels_that_may_be_made_are_touched(rt: HostRuntime) -> Result<(), Fail> {
     let subdivide = Filing::Subdivide {
@@ -169,7 +179,7 @@ fn parcels_that_may_be_made_are_touched(rt: HostRuntime) -> Result<(), Fail> {
         owner: 5,
         area: 40,
     };
-    let touched = touches(subdivide, 2, 6);
+    let touched = sixth(subdivide).touches();
     assert!(rt; touched.has(0) && touched.has(14) && touched.has(15));
     assert!(rt; !touched.has(13) && !touched.has(16));
     let merge = Filing::Merge {
@@ -177,7 +187,7 @@ fn parcels_that_may_be_made_are_touched(rt: HostRuntime) -> Result<(), Fail> {
         other: 3,
         owner: 5,
     };
-    let joined = touches(merge, 2, 6);
+    let joined = sixth(merge).touches();
     assert!(rt; joined.has(65535) && joined.has(3) && joined.has(14) && !joined.has(15));
     assert!(rt; touched.shares(joined) && joined.shares(touched));
     assert!(rt; !touched.shares(Touched::One(3)));

@@ -1,5 +1,5 @@
 // Openings at the edges of each check: the number of parcels, the bytes of their pages, the areas.
-use pages::opening::check_opening;
+use pages::opening::Opening;
 use pages::refusal::Refusal;
 use std::alloc::{AllocError, Global};
 use std::test::*;
@@ -12,6 +12,10 @@ fn pages(heap: Global, parcels: u16, area: u32) -> Result<Vec<u8>, AllocError> {
         bytes.extend_from_slice(&area.to_le_bytes())?;
     }
     Ok(bytes)
+}
+
+fn check_opening(parcels: u16, pages: &[u8]) -> Result<(), Refusal> {
+    Opening { parcels, pages }.check()
 }
 
 #[test]

@@ -1,21 +1,21 @@
 // Pages in lent words: written and read back, next to each other and past the end, and openings in memory that is too short.
-use entries::entry::{Claim, Entry};
+use entries::entry::Entry;
 use entries::page::Page;
-use pages::opening::open_pages;
+use pages::opening::{Opening, open_pages};
 use pages::refusal::{Lent, Refusal};
 use pages::register::{read_page, write_page};
 use std::test::*;
 
 const TWO: [u8; 16] = [5, 0, 0, 0, 100, 0, 0, 0, 6, 0, 0, 0, 0, 202, 154, 59];
 
+fn opened(words: &mut [u64], parcels: u16, pages: &[u8]) -> Result<(), Refusal> {
+    open_pages(words, Opening { parcels, pages })
+}
+
 #[test]
 fn what_is_written_is_read_back(rt: HostRuntime) -> Result<(), Fail> {
     let mut words = vec![in rt.alloc(); 7u64; 132 * 3]?;
-    let entry = Entry {
-        number: 65535,
-        holder: 4_294_967_295,
-        claim: Claim::Charge(1_000_000_000_000_000),
-    };
+    let entry = Entry::charge(65535, 4_294_967_295, 1_000_000_000_000_000);
     let Some(page) = Page::vacant(true, 5, 60).append(entry) else {
         return Err(Fail::new("no room"));
     };
@@ -58,7 +58,7 @@ fn any_words_are_a_page(rt: HostRuntime) -> Result<(), Fail> {
 #[test]
 fn an_opening_writes_every_page(rt: HostRuntime) -> Result<(), Fail> {
     let mut words = vec![in rt.alloc(); 7u64; 132 * 3]?;
-    assert_eq!(rt; open_pages(words.as_mut_slice(), 2, &TWO), Ok(()));
+    assert_eq!(rt; opened(words.as_mut_slice(), 2, &TWO), Ok(()));
     let first = read_page(words.as_slice(), 0);
     assert!(rt; first.live());
     assert_eq!(rt; first.owner(), 5);
@@ -77,23 +77,23 @@ fn an_opening_writes_every_page(rt: HostRuntime) -> Result<(), Fail> {
 fn memory_is_looked_at_first(rt: HostRuntime) -> Result<(), Fail> {
     let mut short = vec![in rt.alloc(); 7u64; 132 * 2 - 1]?;
     assert_eq!(rt;
-        open_pages(short.as_mut_slice(), 2, &TWO),
+        opened(short.as_mut_slice(), 2, &TWO),
         Err(Refusal::Short(Lent::Pages))
     );
     assert_eq!(rt;
-        open_pages(short.as_mut_slice(), 2, &[]),
+        opened(short.as_mut_slice(), 2, &[]),
         Err(Refusal::Short(Lent::Pages))
     );
     assert_eq!(rt;
-        open_pages(short.as_mut_slice(), 1025, &[]),
+        opened(short.as_mut_slice(), 1025, &[]),
         Err(Refusal::Short(Lent::Pages))
     );
     assert_eq!(rt;
-        open_pages(short.as_mut_slice(), 0, &[]),
+        opened(short.as_mut_slice(), 0, &[]),
         Err(Refusal::Parcels)
     );
     assert_eq!(rt;
-        open_pages(short.as_mut_slice(), 1, &TWO),
+        opened(short.as_mut_slice(), 1, &TWO),
         Err(Refusal::Pages(16))
     );
     assert!(rt; short.len() == 263);

@@ -2,12 +2,29 @@
 use entering::enter::enter;
 use entering::outcome::{Outcome, Rejection};
 use entries::page::Page;
+use filings::filed::Filed;
 use filings::filing::Filing;
-use pages::opening::open_pages;
+use pages::opening::{Opening, open_pages};
+use pages::refusal::Refusal;
 use pages::register::read_page;
 use std::test::*;
 
-const OPENING: [u8; 16] = [5, 0, 0, 0, 100, 0, 0, 0, 5, 0, 0, 0, 50, 0, 0, 0];
+const OPENING: Opening<'static> = Opening {
+    parcels: 2,
+    pages: &[5, 0, 0, 0, 100, 0, 0, 0, 5, 0, 0, 0, 50, 0, 0, 0],
+};
+
+const SUBDIVIDE: Filing = Filing::Subdivide {
+    parcel: 0,
+    owner: 5,
+    area: 40,
+};
+
+const TRANSFER: Filing = Filing::Transfer {
+    parcel: 14,
+    owner: 5,
+    to: 6,
+};
 
 fn charge(parcel: u16, holder: u32, amount: u64) -> Filing {
     let owner = 5;
@@ -31,82 +48,75 @@ fn merger(parcel: u16, other: u16, owner: u32) -> Filing {
     }
 }
 
-fn summer(number: u16) -> Filing {
-    match number {
-        0 => charge(0, 9, 1000),
-        1 => Filing::Reserve {
-            parcel: 0,
-            owner: 5,
-            holder: 7,
-        },
-        2 => charge(0, 8, 500),
-        3 => transfer(1, 5, 6),
-        4 => Filing::Fill {
-            parcel: 0,
-            owner: 5,
-            holder: 7,
-            number: 1,
-            amount: 2000,
-        },
-        5 => Filing::Postpone {
-            parcel: 0,
-            holder: 9,
-            number: 0,
-        },
-        6 => Filing::Subdivide {
-            parcel: 0,
-            owner: 5,
-            area: 40,
-        },
-        7 => transfer(14, 5, 6),
-        8 => Filing::Release {
-            parcel: 15,
-            holder: 8,
-            number: 2,
-        },
-        9 => merger(14, 15, 5),
-        10 => charge(0, 4, 1),
-        11 => merger(15, 15, 5),
-        _ => merger(14, 1, 6),
-    }
+// Each filing, and what comes of it.
+fn summer() -> [(Filing, Outcome); 13] {
+    let reserve = Filing::Reserve {
+        parcel: 0,
+        owner: 5,
+        holder: 7,
+    };
+    let fill = Filing::Fill {
+        parcel: 0,
+        owner: 5,
+        holder: 7,
+        number: 1,
+        amount: 2000,
+    };
+    let postpone = Filing::Postpone {
+        parcel: 0,
+        holder: 9,
+        number: 0,
+    };
+    let release = Filing::Release {
+        parcel: 15,
+        holder: 8,
+        number: 2,
+    };
+    [
+        (charge(0, 9, 1000), Outcome::Entered),
+        (reserve, Outcome::Entered),
+        (charge(0, 8, 500), Outcome::Entered),
+        (transfer(1, 5, 6), Outcome::Entered),
+        (fill, Outcome::Entered),
+        (postpone, Outcome::Entered),
+        (SUBDIVIDE, Outcome::Entered),
+        (TRANSFER, Outcome::Entered),
+        (release, Outcome::Entered),
+        (merger(14, 15, 5), Outcome::Rejected(Rejection::NotOwner)),
+        (charge(0, 4, 1), Outcome::Rejected(Rejection::NotLive)),
+        (merger(15, 15, 5), Outcome::Rejected(Rejection::Itself)),
+        (merger(14, 1, 6), Outcome::Rejected(Rejection::Unlike)),
+    ]
 }
 
-fn expected(number: u16) -> Outcome {
-    match number {
-        9 => Outcome::Rejected(Rejection::NotOwner),
-        10 => Outcome::Rejected(Rejection::NotLive),
-        11 => Outcome::Rejected(Rejection::Itself),
-        12 => Outcome::Rejected(Rejection::Unlike),
-        _ => Outcome::Entered,
-    }
-}
-
-fn as_expected(words: &mut [u64], number: u16) -> bool {
-    match enter(words, 2, number, summer(number)) {
-        Ok(outcome) => outcome == expected(number),
-        Err(_) => false,
-    }
+fn entered(words: &mut [u64], number: u16, filing: Filing) -> Result<Outcome, Refusal> {
+    let parcels = 2;
+    enter(
+        words,
+        Filed {
+            parcels,
+            number,
+            filing,
+        },
+    )
 }
 
 // A page by its owner, its area and the numbers of its entries, at most four, as digits of one number.
 fn in_short(page: &Page) -> (bool, u32, u64, usize) {
-    let mut digits = 0usize;
-    for place in 0..4 {
-        if let Some(entry) = page.entry(place) {
-            digits = digits
-                .wrapping_mul(10)
-                .wrapping_add(entry.number as usize + 1);
-        }
-    }
+    let digits = page.standing().iter().take(4).fold(0usize, |digits, entry| {
+        digits
+            .wrapping_mul(10)
+            .wrapping_add(usize::from(entry.number) + 1)
+    });
     (page.live(), page.owner(), page.area(), digits)
 }
 
 #[test]
 fn a_summers_filings(rt: HostRuntime) -> Result<(), Fail> {
     let mut words = vec![in rt.alloc(); 7u64; 132 * 28]?;
-    assert!(rt; open_pages(words.as_mut_slice(), 2, &OPENING).is_ok());
-    for number in 0..13 {
-        assert!(rt; as_expected(words.as_mut_slice(), number));
+    assert!(rt; open_pages(words.as_mut_slice(), OPENING).is_ok());
+    for (number, (filing, outcome)) in (0..).zip(summer()) {
+        assert_eq!(rt; entered(words.as_mut_slice(), number, filing), Ok(outcome));
     }
     assert_eq!(rt;
         in_short(&read_page(words.as_slice(), 0)),
@@ -131,12 +141,12 @@ fn a_summers_filings(rt: HostRuntime) -> Result<(), Fail> {
 #[test]
 fn memory_for_what_a_filing_may_make(rt: HostRuntime) -> Result<(), Fail> {
     let mut words = vec![in rt.alloc(); 7u64; 132 * 16]?;
-    assert!(rt; open_pages(words.as_mut_slice(), 2, &OPENING).is_ok());
+    assert!(rt; open_pages(words.as_mut_slice(), OPENING).is_ok());
     assert!(rt;
-        enter(words.as_mut_slice(), 2, 6, summer(6)).is_ok(),
+        entered(words.as_mut_slice(), 6, SUBDIVIDE).is_ok(),
         "parcels 14 and 15"
     );
-    let Err(refusal) = enter(words.as_mut_slice(), 2, 7, summer(7)) else {
+    let Err(refusal) = entered(words.as_mut_slice(), 7, TRANSFER) else {
         return Err(Fail::new("no room for 16 and 17"));
     };
     assert_eq!(rt; (refusal.number(), refusal.place()), (12, 0));

@@ -2,9 +2,10 @@
 use Rattle.std.proofs.Common.{◌≡◌, ℕ, zero, suc, ◌<◌, ◌≤◌, true, false, List, [], ◌∷◌, ◌++◌, length, get_or, set, is_none, is_some, Some, None, Option, sym, refl, ap, ◌∙◌, ⊎_elim, arith}
 use Rattle.std.proofs.lemmas.List.{get_or-set_same, get_or-set_other, length_push, set-append_left, set_at}
 use Rattle.std.proofs.lemmas.Bool.{cases_lt, true≢false}
+use Rattle.std.proofs.lemmas.Option.{slice_get_past, slice_get_within}
 use Rattle.std.specs.List.{slice_get}
 use Rattle.std.specs.Option.{option_to_list}
-use Rattle.orders.proofs.Places.{nth_front, nth_last, nth_none, nth_some}
+use Rattle.orders.proofs.Places.{nth_front, nth_last}
 use Rattle.orders.specs.Desk.{is_open}
 use Rattle.filings.specs.declared.filing.Filing.{Filing}
 use Rattle.entering.specs.declared.outcome.Outcome.{Outcome}
@@ -40,10 +41,10 @@ module _ (kept : ℕ → Option Filing) where
       (cases_lt i n)
 
   pub filed_past : (n i : ℕ) → ((k : ℕ) → k < n → is_some (kept k) ≡ true) → n ≤ i → slice_get (filed_in kept n) i ≡ None
-  filed_past n i all past = let size = filed_length n all in nth_none (filed_in kept n) i (omega arith)
+  filed_past n i all past = let size = filed_length n all in slice_get_past (filed_in kept n) i (omega arith)
 
   pub filed_below : (n i : ℕ) (f : Filing) → ((k : ℕ) → k < n → is_some (kept k) ≡ true) → slice_get (filed_in kept n) i ≡ Some f → i < n
-  filed_below n i f all there = let size = filed_length n all in let within = nth_some (filed_in kept n) i f there in omega arith
+  filed_below n i f all there = let size = filed_length n all in let within = slice_get_within (filed_in kept n) i f there in omega arith
 
 pub filed_same : (kept other : ℕ → Option Filing) (n : ℕ) → ((k : ℕ) → k < n → kept k ≡ other k) → filed_in kept n ≡ filed_in other n
 unfolding filed_in
@@ -98,4 +99,4 @@ open_there ms m n here = ap is_open (marks_nth ms m n here) ∙ by_mark (mark_of
     by_mark (Some x) = refl
 
 pub open_past : (ms : List ℕ) (m n : ℕ) → m ≤ n → is_open (slice_get (marks_in ms m) n) ≡ false
-open_past ms m n past = let size = marks_length ms m in ap is_open (nth_none (marks_in ms m) n (omega arith))
+open_past ms m n past = let size = marks_length ms m in ap is_open (slice_get_past (marks_in ms m) n (omega arith))
