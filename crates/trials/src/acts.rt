@@ -18,7 +18,7 @@ fn page_of(count: u16) -> Page {
 }
 
 fn found(page: Option<Page>) -> Result<Page, Fail> {
-    page.ok_or(Fail::new("refused"))
+    page.ok_or_else(|| Fail::new("refused"))
 }
 
 fn named(number: u16, holder: u32) -> EntryName {
@@ -91,7 +91,10 @@ fn a_postponement_passes_one_entry(rt: HostRuntime) -> Result<(), Fail> {
     assert_eq!(rt; number_at(&last, 30), 30);
     let only = found(page_of(1).postpone(named(0, 7)))?;
     assert_eq!(rt; number_at(&only, 0), 0);
-    assert!(rt; page_of(3).postpone(named(1, 7)).is_none(), "another holder");
+    assert!(rt;
+        page_of(3).postpone(named(1, 7)).is_none(),
+        "another holder"
+    );
     Ok(())
 }
 
@@ -99,7 +102,10 @@ fn a_postponement_passes_one_entry(rt: HostRuntime) -> Result<(), Fail> {
 fn entries_are_found_by_number_and_holder(rt: HostRuntime) -> Result<(), Fail> {
     let page = page_of(32);
     assert!(rt; page.find(named(0, 7)) == Some(0));
-    assert!(rt; page.find(named(30, 7)) == Some(30), "the second of one holder");
+    assert!(rt;
+        page.find(named(30, 7)) == Some(30),
+        "the second of one holder"
+    );
     assert!(rt; page.find(named(31, 8)) == Some(31));
     assert!(rt; page.find(named(31, 7)).is_none());
     assert!(rt; page.find(named(32, 7)).is_none());

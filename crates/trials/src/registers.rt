@@ -88,10 +88,7 @@ fn memory_is_looked_at_first(rt: HostRuntime) -> Result<(), Fail> {
         opened(short.as_mut_slice(), 1025, &[]),
         Err(Refusal::Short(Lent::Pages))
     );
-    assert_eq!(rt;
-        opened(short.as_mut_slice(), 0, &[]),
-        Err(Refusal::Parcels)
-    );
+    assert_eq!(rt; opened(short.as_mut_slice(), 0, &[]), Err(Refusal::Parcels));
     assert_eq!(rt;
         opened(short.as_mut_slice(), 1, &TWO),
         Err(Refusal::Pages(16))

@@ -103,11 +103,15 @@ fn entered(words: &mut [u64], number: u16, filing: Filing) -> Result<Outcome, Re
 
 // A page by its owner, its area and the numbers of its entries, at most four, as digits of one number.
 fn in_short(page: &Page) -> (bool, u32, u64, usize) {
-    let digits = page.standing().iter().take(4).fold(0usize, |digits, entry| {
-        digits
-            .wrapping_mul(10)
-            .wrapping_add(usize::from(entry.number) + 1)
-    });
+    let digits = page
+        .standing()
+        .iter()
+        .take(4)
+        .fold(0usize, |digits, entry| {
+            digits
+                .wrapping_mul(10)
+                .wrapping_add(usize::from(entry.number) + 1)
+        });
     (page.live(), page.owner(), page.area(), digits)
 }
 
