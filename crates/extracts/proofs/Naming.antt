@@ -1,5 +1,5 @@
 -- What the open filings that an extract names say of its page. Assumes nothing.
-use Rattle.std.proofs.Common.{◌≡◌, ℕ, ◌<◌, ◌≤◌, true, false, ◌&&◌, length, Ok, Err, vec_items, sym, ap, ◌∙◌, subst, ⊎_elim, zero-le, arith}
+use Rattle.std.proofs.Common.{◌≡◌, ℕ, ◌<◌, ◌≤◌, true, false, ◌&&◌, List, [], ◌∷◌, length, Ok, Err, vec_items, sym, ap, ◌∙◌, subst, ⊎_elim, zero-le, arith}
 use Rattle.std.proofs.lemmas.Bool.{cases_lt, cond-true}
 use Rattle.std.specs.List.{slice_get}
 use Rattle.orders.proofs.Places.{nth_none}
@@ -12,10 +12,11 @@ use Rattle.steps.proofs.Locals.{filings_are_local}
 use Rattle.steps.specs.Acting.{acts}
 use Rattle.work.proofs.Promises.{promised}
 use Rattle.work.specs.State.{State}
-use Rattle.extracts.specs.Drawing.{Extracts, Settled, Worth, all_open}
+use Rattle.extracts.specs.Drawing.{Extracts, Worth}
 use Rattle.extracts.specs.Existing.{may_exist}
+use Rattle.extracts.specs.Open.{all_open, open_below}
 use Rattle.extracts.specs.declared.extract.Extract.{Extract}
-use Rattle.extracts.proofs.Pending.{begins, none_below}
+use Rattle.extracts.proofs.Pending.{first_of_list, first_of_none}
 
 module _ (s : State) (p : ℕ) where
   -- what touches the page is done, if the first open one is behind all that was filed
@@ -27,32 +28,28 @@ module _ (s : State) (p : ℕ) where
       (λ (behind : length s.desk.filed ≤ i). ap (λ o. touched_by (acts s.parcels) i o p) (nth_none s.desk.filed i behind))
       (cases_lt i (length s.desk.filed))
 
-  worth : (page : Sheet) → page ≡ s.desk.register p → Worth s p page (all_open s p)
-  worth page is bytes ys from =
+  worth : (page : Sheet) (ns : List ℕ) → page ≡ s.desk.register p → ns ≡ all_open s p → Worth s p page ns
+  worth page [] is all bytes ys from =
       let P = s.parcels in
       let n : ℕ = length s.desk.filed in
-      let f : ℕ = first_open (acts P) s.desk p in
       let kept = promised bytes ys s from in
-      let first = first_is (acts P) (filings_are_local P) s.desk p 0 n in
-      let so_far : page ≡ turn (acts P) (opened_page P bytes) s.desk.filed f p = is ∙ kept.as_filed.page p in
-      ⊎_elim
-      (λ (some : f < n).
-      let list = begins s p f (λ i h. first.below i zero-le h) (first.at (omega arith)) n some in
-      subst (Settled bytes s p page) (sym list.1) so_far)
-      (λ (none : n ≤ f).
-      let up = first.to in
-      let same : f ≡ n = omega arith in
-      let last = subst (First (acts P) (filings_are_local P) s.desk p 0 n) same first in
-      subst (Settled bytes s p page) (sym (none_below s p n (λ i h. last.below i zero-le h)))
-      (record {
-        as_filed = so_far ∙ ap (λ k. turn (acts P) (opened_page P bytes) s.desk.filed k p) same;
+      let behind = first_of_none s p 0 n (sym all) in
+      let past : first_open (acts P) s.desk p ≡ n = omega arith in
+      let last = subst (First (acts P) (filings_are_local P) s.desk p 0 n) past (first_is (acts P) (filings_are_local P) s.desk p 0 n) in
+      record {
+        as_filed = is ∙ kept.as_filed.page p ∙ ap (λ k. turn (acts P) (opened_page P bytes) s.desk.filed k p) past;
         stays = λ ns. kept.settled p (free last) ns ∙ sym is;
-      }))
-      (cases_lt f n)
+      }
+  worth page (n ∷ ns) is all bytes ys from =
+      let P = s.parcels in
+      let kept = promised bytes ys s from in
+      is ∙ kept.as_filed.page p ∙ ap (λ k. turn (acts P) (opened_page P bytes) s.desk.filed k p) (first_of_list s p 0 (length s.desk.filed) n ns (sym all))
 
   -- with the page as it stands and all that is open on it an extract is the answer
-  pub drawn : (x : Extract) → x.parcel ≡ p → sheet x.page ≡ s.desk.register p → vec_items x.«open» ≡ all_open s p → may_exist s p ≡ true → Extracts s p (Ok x)
-  drawn x parcel page all exists = record {
-    answer = (λ i. Ok (record { parcel = parcel i; page = page i; filings = all i })) ∙ sym (cond-true (may_exist s p) _ (Err NoParcel) exists);
-    settled = subst (Worth s p (sheet x.page)) (sym all) (worth (sheet x.page) page);
-  }
+  pub drawn : (x : Extract) (k : ℕ) → x.parcel ≡ p → sheet x.page ≡ s.desk.register p → vec_items x.«open» ≡ open_below s p k → length s.desk.filed ≡ k → may_exist s p ≡ true → Extracts s p (Ok x)
+  drawn x k parcel page listed long exists =
+      let all = listed ∙ ap (open_below s p) (sym long) in
+      record {
+        answer = (λ i. Ok (record { parcel = parcel i; page = page i; filings = all i })) ∙ sym (cond-true (may_exist s p) _ (Err NoParcel) exists);
+        settled = worth (sheet x.page) (vec_items x.«open») page all;
+      }
