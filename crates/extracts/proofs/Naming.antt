@@ -1,6 +1,6 @@
 -- What the open filings that an extract names say of its page. Assumes nothing.
-use Rattle.std.proofs.Common.{◌≡◌, ℕ, ◌<◌, ◌≤◌, true, false, ◌&&◌, List, [], ◌∷◌, length, Ok, Err, vec_items, sym, ap, ◌∙◌, subst, ⊎_elim, zero-le, arith}
-use Rattle.std.proofs.lemmas.Bool.{cases_lt, cond-true}
+use Rattle.std.proofs.Common.{◌≡◌, ℕ, ◌<◌, ◌≤◌, Bool, true, false, cond, ◌&&◌, List, [], ◌∷◌, length, Ok, Err, vec_items, sym, ap, ◌∙◌, subst, ⊎_elim, zero-le, arith}
+use Rattle.std.proofs.lemmas.Bool.{cases_lt}
 use Rattle.std.specs.List.{slice_get}
 use Rattle.orders.proofs.Places.{nth_none}
 use Rattle.orders.proofs.Reached.{First, first_is}
@@ -12,9 +12,9 @@ use Rattle.steps.proofs.Locals.{filings_are_local}
 use Rattle.steps.specs.Acting.{acts}
 use Rattle.work.proofs.Promises.{promised}
 use Rattle.work.specs.State.{State}
-use Rattle.extracts.specs.Drawing.{Extracts, Worth}
+use Rattle.extracts.specs.Drawing.{Content, Extracts, Worth, content, extract_of}
 use Rattle.extracts.specs.Existing.{may_exist}
-use Rattle.extracts.specs.Open.{all_open, open_below}
+use Rattle.extracts.specs.Open.{all_open}
 use Rattle.extracts.specs.declared.extract.Extract.{Extract}
 use Rattle.extracts.proofs.Pending.{first_of_list, first_of_none}
 
@@ -45,11 +45,16 @@ module _ (s : State) (p : ℕ) where
       let kept = promised bytes ys s from in
       is ∙ kept.as_filed.page p ∙ ap (λ k. turn (acts P) (opened_page P bytes) s.desk.filed k p) (first_of_list s p 0 (length s.desk.filed) n ns (sym all))
 
-  -- with the page as it stands and all that is open on it an extract is the answer
-  pub drawn : (x : Extract) (k : ℕ) → x.parcel ≡ p → sheet x.page ≡ s.desk.register p → vec_items x.«open» ≡ open_below s p k → length s.desk.filed ≡ k → may_exist s p ≡ true → Extracts s p (Ok x)
-  drawn x k parcel page listed long exists =
-      let all = listed ∙ ap (open_below s p) (sym long) in
-      record {
-        answer = (λ i. Ok (record { parcel = parcel i; page = page i; filings = all i })) ∙ sym (cond-true (may_exist s p) _ (Err NoParcel) exists);
-        settled = worth (sheet x.page) (vec_items x.«open») page all;
-      }
+  abbrev drawn : Content
+  drawn = record { parcel = p; page = s.desk.register p; filings = all_open s p }
+
+  -- who has the answer has no refusal
+  not_refused : (b : Bool) (x : Content) → Ok x ≡ cond b (Ok drawn) (Err NoParcel) → x ≡ drawn
+  not_refused true x is = cc
+  not_refused false x is = cc
+
+  -- with the answer it is known what the page is worth
+  pub extracts : (x : Extract) → Ok (content x) ≡ extract_of s p → Extracts s p (Ok x)
+  extracts x is =
+      let same = not_refused (may_exist s p) (content x) is in
+      record { answer = is; settled = worth (sheet x.page) (vec_items x.«open») (ap (λ (y : Content). y.page) same) (ap (λ (y : Content). y.filings) same) }

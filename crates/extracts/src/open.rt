@@ -20,8 +20,8 @@ fn open_there(registry: &Registry<'_>, parcel: u16, number: u16) -> bool
 // The numbers of all that are, rising.
 pub(crate) fn all_open(
     registry: &Registry<'_>,
-    parcel: u16,
     heap: Global,
+    parcel: u16,
 ) -> Result<Vec<u16>, AllocError>
     ensures { IfOk result (λ v. v.items ≡ open_below (state_of registry.now) parcel registry.now.filed) }
 {
