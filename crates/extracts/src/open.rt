@@ -7,7 +7,6 @@ use std::alloc::{AllocError, Global};
 use work::registry::Registry;
 
 // Whether a filing is open and touches the page, whatever will become of it.
-#[tactic(auto, unfolding(filings::specs::Touches::touched_by))]
 fn open_there(registry: &Registry<'_>, parcel: u16, number: u16) -> bool
     ensures { result ≡ open_there (state_of registry.now) parcel number }
 {

@@ -39,7 +39,6 @@ impl Listed for u16 {
     }
 }
 
-#[tactic(auto, using(std::proofs::lemmas::List::take_more))]
 fn write_each<T: Listed, W: fmt::Write>(f: &mut fmt::Formatter<W>, list: &[T]) -> fmt::Result
     ensures { WritesOnOk W.write_str_gives f.old result (flat_map T.text list.now) f.new }
 {
