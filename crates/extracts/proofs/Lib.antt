@@ -2,4 +2,3 @@
 pub mod Making
 pub mod Naming
 pub mod Pending
-pub mod Texts

@@ -1,6 +1,8 @@
 -- Only one filing can have made a parcel: the one that its number names. Assumes nothing.
-use Rattle.std.proofs.Common.{◌≡◌, ℕ, zero, suc, ◌+◌, ◌-◌, ◌/◌, ◌<◌, ◌≤◌, Bool, true, false, ◌||◌, List, [], ◌∷◌, Some, None, Option, refl, ap, ◌∙◌, arith}
-use Rattle.std.proofs.lemmas.Bool.{ne_eqb, or_from}
+use Rattle.std.proofs.Common.{◌≡◌, ℕ, zero, suc, ◌+◌, ◌-◌, ◌/◌, ◌<◌, ◌≤◌, Bool, false, ◌||◌, List, [], ◌∷◌, Some, None, Option, refl, ap, ◌∙◌, arith}
+use Rattle.std.proofs.Math.Bool.{or-false}
+use Rattle.std.proofs.lemmas.Bool.{or_from}
+use Rattle.std.proofs.lemmas.Bool.Decides.{nat_tests}
 use Rattle.std.specs.List.{slice_get}
 use Rattle.filings.specs.Touches.{first_made, may_make, member}
 use Rattle.filings.specs.declared.filing.Filing.{Filing}
@@ -15,8 +17,8 @@ not_made (Reserve parcel owner holder) first p one two = refl
 not_made (Fill parcel owner holder number amount) first p one two = refl
 not_made (Release parcel holder number) first p one two = refl
 not_made (Postpone parcel holder number) first p one two = refl
-not_made (Subdivide parcel owner area) first p one two = or_from _ _ (ne_eqb first p one) (or_from _ _ (ne_eqb (first + 1) p two) refl)
-not_made (Merge parcel other owner) first p one two = or_from _ _ (ne_eqb first p one) refl
+not_made (Subdivide parcel owner area) first p one two = grind (arith, nat_tests)
+not_made (Merge parcel other owner) first p one two = grind (arith, nat_tests)
 
 -- none of these, where all may make only later ones
 made_later : (P n : ℕ) (fs : List Filing) (p : ℕ) → p < first_made P n → made_by P n fs p ≡ false
@@ -29,17 +31,13 @@ abbrev pub made_of : ℕ → Option Filing → ℕ → Bool
 made_of first None p = false
 made_of first (Some f) p = member p (may_make first f)
 
-or_none : (b c : Bool) → c ≡ false → (b || c) ≡ b
-or_none true c none = refl
-or_none false c none = none
-
 -- the filing k places on, of which the parcel is one of two
 made_there : (P n k : ℕ) (fs : List Filing) (p : ℕ) → first_made P (n + k) ≤ p → p < first_made P (n + k) + 2 → made_by P n fs p ≡ made_of (first_made P (n + k)) (slice_get fs k) p
 unfolding made_by
 made_there P n k [] p low high = refl
 made_there P n zero (f ∷ fs) p low high =
     let here : n ≡ n + 0 = omega arith in
-    or_none (member p (may_make (first_made P n) f)) _ (made_later P (suc n) fs p (omega arith)) ∙ ap (λ i. member p (may_make (first_made P i) f)) here
+    ap (λ b. member p (may_make (first_made P n) f) || b) (made_later P (suc n) fs p (omega arith)) ∙ or-false _ ∙ ap (λ i. member p (may_make (first_made P i) f)) here
 made_there P n (suc k) (f ∷ fs) p low high =
     let on : suc n + k ≡ n + suc k = omega arith in
     ap (λ b. b || made_by P (suc n) fs p) (not_made f (first_made P n) p (λ e. omega arith) (λ e. omega arith)) ∙

@@ -11,7 +11,7 @@ use Rattle.steps.specs.Acting.{acts}
 use Rattle.work.specs.Promises.{From}
 use Rattle.work.specs.State.{State}
 use Rattle.extracts.specs.Existing.{may_exist}
-use Rattle.extracts.specs.Open.{open_below}
+use Rattle.extracts.specs.Open.{all_open}
 use Rattle.extracts.specs.declared.error.ExtractError.{ExtractError}
 use Rattle.extracts.specs.declared.error.ExtractError.TheVariants.{Refused, NoMemory}
 use Rattle.extracts.specs.declared.extract.Extract.{Extract}
@@ -24,9 +24,6 @@ pub record Content : Type 0 where
 
 abbrev pub content : Extract → Content
 content x = record { parcel = x.parcel; page = sheet x.page; filings = vec_items x.«open» }
-
-abbrev pub all_open : State → ℕ → List ℕ
-all_open s p = open_below s p (length s.desk.filed)
 
 -- the page as it stands; no parcel can have the number that is refused
 abbrev pub extract_of : State → ℕ → Result Content Refusal

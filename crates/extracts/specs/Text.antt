@@ -1,15 +1,10 @@
 -- The text of an extract. Its last line has no end: whoever prints it ends it. Assumes nothing.
-use Rattle.std.specs.Prelude.{ℕ, Bool, true, false, cond, List, [], ◌∷◌, ◌++◌, length, codes, decimal, ◌==◌, nat_lt}
+use Rattle.std.specs.Prelude.{ℕ, Bool, true, false, cond, List, ◌++◌, length, codes, decimal, flat_map, ◌==◌, nat_lt}
 use Rattle.entries.specs.Sheet.{Sheet}
 use Rattle.entries.specs.declared.entry.Claim.{Claim}
 use Rattle.entries.specs.declared.entry.Claim.TheVariants.{Charge, Reserved}
 use Rattle.entries.specs.declared.entry.Entry.{Entry}
 use Rattle.extracts.specs.Drawing.{Content}
-
--- the text of each, one after another
-abbrev pub each : {X : Type 0} → (X → List ℕ) → List X → List ℕ
-each text [] = []
-each text (x ∷ xs) = text x ++ each text xs
 
 abbrev pub claim_text : Claim → List ℕ
 claim_text (Charge amount) = codes " charge " ++ (decimal amount ++ codes "\n")
@@ -27,7 +22,7 @@ life_text false = codes "closed"
 abbrev pub there_text : ℕ → Sheet → List ℕ
 there_text p page =
     codes "parcel " ++
-    (decimal p ++ (codes " owner " ++ (decimal page.owner ++ (codes " area " ++ (decimal page.area ++ (codes " " ++ (life_text page.live ++ (codes "\n" ++ each entry_line page.entries))))))))
+    (decimal p ++ (codes " owner " ++ (decimal page.owner ++ (codes " area " ++ (decimal page.area ++ (codes " " ++ (life_text page.live ++ (codes "\n" ++ flat_map entry_line page.entries))))))))
 
 -- a parcel has at least one square metre, so a page without land is that of no parcel
 abbrev pub is_there : Sheet → Bool
@@ -41,7 +36,7 @@ number_text n = codes " " ++ decimal n
 
 -- as 'open 16 17'
 abbrev pub open_text : List ℕ → List ℕ
-open_text ns = cond (length ns == 0) (codes "open none") (codes "open" ++ each number_text ns)
+open_text ns = cond (length ns == 0) (codes "open none") (codes "open" ++ flat_map number_text ns)
 
 abbrev pub extract_text : Content → List ℕ
 extract_text x = page_text x.parcel x.page ++ open_text x.filings

@@ -1,32 +1,30 @@
-// The open filings that touch a page, one after another.
-ghost use Rattle.std.specs.Prelude.{◌≡◌, ◌+◌, [], ◌∷◌, ◌++◌, if◌then◌else◌};
+// The open filings that touch a page.
+ghost use Rattle.std.specs.Prelude.{◌≡◌, IfOk};
 ghost use Rattle.work.specs.State.{state_of};
-ghost use Rattle.extracts.specs.Open.{open_below, Next};
+ghost use Rattle.extracts.specs.Open.{open_below, open_there};
 
-use filings::touched::touches;
+use std::alloc::{AllocError, Global};
 use work::registry::Registry;
 
-// Whether a filing is open and touches the page, and so comes next in the list.
+// Whether a filing is open and touches the page, whatever will become of it.
 fn open_there(registry: &Registry<'_>, parcel: u16, number: u16) -> bool
-    ensures { open_below (state_of registry.now) parcel (number + 1) ≡ (if result then open_below (state_of registry.now) parcel number ++ number ∷ [] else open_below (state_of registry.now) parcel number) }
+    ensures { result ≡ open_there (state_of registry.now) parcel number }
 {
-    if !registry.is_open(number) {
-        return false;
-    }
-    let Some(filing) = registry.filing(number) else {
-        return false;
-    };
-    touches(filing, registry.parcels, number).has(parcel as u32)
+    registry.is_open(number)
+        && registry
+            .filed_under(number)
+            .is_some_and(|filed| filed.touches().has(u32::from(parcel)))
 }
 
-// The smallest open filing from a number on that touches the parcel's page, if there is one.
-pub(crate) fn next_open(registry: &Registry<'_>, parcel: u16, from: u16) -> Option<u16>
-    ensures { Next (state_of registry.now) parcel from registry.now.filed result }
+// The numbers of all that are, rising.
+pub(crate) fn all_open(
+    registry: &Registry<'_>,
+    heap: Global,
+    parcel: u16,
+) -> Result<Vec<u16>, AllocError>
+    ensures { IfOk result (λ v. v.items ≡ open_below (state_of registry.now) parcel registry.now.filed) }
 {
-    for number in from..registry.filed {
-        if open_there(registry, parcel, number) {
-            return Some(number);
-        }
-    }
-    None
+    (0..registry.filed)
+        .filter(|&number| open_there(registry, parcel, number))
+        .collect(heap)
 }
