@@ -1,6 +1,7 @@
 -- Working a list in turn: what is kept at each number, and what follows at the first that is refused and at the end. Assumes nothing.
-use Rattle.std.proofs.Common.{◌≡◌, ℕ, zero, suc, ◌+◌, true, false, not, ◌&&◌, List, [], ◌∷◌, length, is_ok, Some, None, Ok, Err, Option, Result, sym, refl, ap, ◌∙◌, ⊎_elim, arith}
+use Rattle.std.proofs.Common.{◌≡◌, ℕ, zero, suc, ◌+◌, ◌<◌, ◌≤◌, true, false, not, ◌&&◌, List, [], ◌∷◌, length, get_or, drop, is_ok, Some, None, Ok, Err, Option, Result, sym, refl, ap, ◌∙◌, subst, ⊎_elim, add-one, drop-cons, arith}
 use Rattle.std.proofs.lemmas.Bool.{and_parts, cases_Bool, cond-true, cond-false, true≢false}
+use Rattle.std.proofs.lemmas.List.{drop_all}
 use Rattle.std.specs.List.{slice_get}
 use Rattle.orders.proofs.Places.{nth_some, nth_there}
 use Rattle.orders.proofs.Reached.{kept_reached, reached}
@@ -167,7 +168,7 @@ module _ (all : List ℕ) (before : Image) where
     ready_if_done o (waits j) e = absurd (let z : ◌≡◌ {A = ℕ} 0 1 = cc in omega arith)
     ready_if_done o (ready f) e = refl
 
-    pub on_done : (o : Outcome) → Works (Ok o) n now next → SoFar ns all (suc i) before next
+    on_done : (o : Outcome) → Works (Ok o) n now next → SoFar ns all (suc i) before next
     unfolding checking desk_checked image_checked
     on_done o works =
         let goes = ready_if_done o answer works.answer in
@@ -188,7 +189,7 @@ module _ (all : List ℕ) (before : Image) where
     not_ready_if_refused e (waits j) is = let same : Waits j ≡ e = cc in (refl, same, refl)
     not_ready_if_refused e (ready f) is = absurd (let z : ◌≡◌ {A = ℕ} 0 1 = cc in omega arith)
 
-    pub on_refused : (e : Refusal) → Works (Err e) n now next → Checks (Err (misplaced i e)) all before next
+    on_refused : (e : Refusal) → Works (Err e) n now next → Checks (Err (misplaced i e)) all before next
     unfolding checking desk_checked image_checked
     on_refused e works =
         let stops = not_ready_if_refused e answer works.answer in
@@ -200,6 +201,31 @@ module _ (all : List ℕ) (before : Image) where
         (ap (λ im. im.parcels) same ∙ so_far.parcels)
         (came_on (Err e) works)
 
-  pub at_last : (i : ℕ) (now : Image) → SoFar [] all i before now → Checks (Ok tt) all before now
+  at_last : (i : ℕ) (now : Image) → SoFar [] all i before now → Checks (Ok tt) all before now
   unfolding checking desk_checked image_checked
   at_last i now so_far = checks all before now (Ok tt) so_far.left so_far.image so_far.desk so_far.parcels so_far.came
+
+  -- in the code, which goes by the place in the list
+  module _ (i : ℕ) (now : Image) (so_far : SoFar (drop i all) all i before now) where
+    pub all_done : length all ≤ i → Checks (Ok tt) all before now
+    all_done past = at_last i now (subst (λ l. SoFar l all i before now) (drop_all i all past) so_far)
+
+    module _ (inside : i < length all) (next : Image) (r : Result Outcome Refusal) (works : Works r (get_or all i 0) now next) where
+      here : SoFar (get_or all i 0 ∷ drop (suc i) all) all i before now
+      here = subst (λ l. SoFar l all i before now) (drop-cons all i 0 inside) so_far
+
+      pub goes_on : ((e : Refusal) → r ≡ Err e → ⊥) → SoFar (drop (i + 1) all) all (i + 1) before next
+      goes_on never = subst (λ (k : ℕ). SoFar (drop k all) all k before next) (sym (add-one i)) (by_result r works never)
+        where
+          by_result : (x : Result Outcome Refusal) → Works x (get_or all i 0) now next → ((e : Refusal) → x ≡ Err e → ⊥) → SoFar (drop (suc i) all) all (suc i) before next
+          by_result (Ok o) w never = on_done (get_or all i 0) (drop (suc i) all) i now next here o w
+          by_result (Err e) w never = absurd (never e refl)
+
+      pub stops : (q : Result (Unit {0}) Misplaced) → ((o : Outcome) → r ≡ Ok o → ⊥) → ((e : Refusal) → r ≡ Err e → q ≡ Err (misplaced i e)) → Checks q all before next
+      stops q never told = by_result r works never told
+        where
+          by_result :
+              (x : Result Outcome Refusal) → Works x (get_or all i 0) now next → ((o : Outcome) → x ≡ Ok o → ⊥) →
+              ((e : Refusal) → x ≡ Err e → q ≡ Err (misplaced i e)) → Checks q all before next
+          by_result (Ok o) w never told = absurd (never o refl)
+          by_result (Err e) w never told = subst (λ y. Checks y all before next) (sym (told e refl)) (on_refused (get_or all i 0) (drop (suc i) all) i now next here e w)
