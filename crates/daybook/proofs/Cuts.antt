@@ -7,9 +7,9 @@ use Rattle.daybook.specs.File.{cut, filings_in}
 cut_enough : (n m : ℕ) (bs : List ℕ) → length bs ≤ n → length bs ≤ m → cut n bs ≡ cut m bs
 cut_enough zero zero bs h k = refl
 cut_enough zero (suc m) [] h k = refl
-cut_enough zero (suc m) (b ∷ bs) h k = absurd (omega arith)
+cut_enough zero (suc m) (b ∷ bs) h k = grind arith
 cut_enough (suc n) zero [] h k = refl
-cut_enough (suc n) zero (b ∷ bs) h k = absurd (omega arith)
+cut_enough (suc n) zero (b ∷ bs) h k = grind arith
 cut_enough (suc n) (suc m) [] h k = refl
 cut_enough (suc n) (suc m) (b ∷ bs) h k =
     ap (λ l. take b bs ∷ l) (cut_enough n m (drop b bs) (simp length-drop (omega arith)) (simp length-drop (omega arith)))

@@ -1,11 +1,10 @@
 -- Where the filings of a file end, one filing at a time. Assumes nothing.
-use Rattle.std.proofs.Common.{◌≡◌, ℕ, zero, suc, ◌+◌, ◌-◌, ◌<◌, ◌≤◌, Bool, true, false, cond, eqb, leb, List, [], ◌∷◌, length, drop, Some, None, Option, Ok, Err, Bor, sym, refl, ap, ◌∙◌, subst, arith, length-drop}
+use Rattle.std.proofs.Common.{◌≡◌, ℕ, zero, suc, ◌+◌, ◌-◌, ◌<◌, ◌≤◌, Bool, true, false, cond, eqb, leb, List, [], ◌∷◌, length, drop, Some, None, Option, Ok, Bor, sym, refl, ap, ◌∙◌, subst, arith, length-drop}
 use Rattle.std.specs.Option.{unwrap_or}
 use Rattle.std.proofs.lemmas.List.{drop_all, drop-drop, drop_more}
 use Rattle.std.proofs.lemmas.Bool.{cond-true, cond-false, le-leb, lt-leb, leb-false, eq-eqb, ne_eqb}
 use Rattle.pages.specs.Bytes.{byte}
-use Rattle.daybook.specs.declared.error.Missing.TheVariants.{Filing}
-use Rattle.daybook.specs.File.{end_from, malformed}
+use Rattle.daybook.specs.File.{end_from}
 
 -- three tests in a row, of which the last way differs
 last_way :
@@ -28,20 +27,11 @@ enough (suc n) (suc m) bs place h k =
     let inside = leb-false (length bs) place a in
     enough n m bs (place + (1 + byte bs place)) (omega arith) (omega arith))
 
--- one step: at the byte 0, at a filing that is cut off, and past a filing
+-- one step: at the byte 0, and past a filing
 pub at_end : (n : ℕ) (bs : List ℕ) (place : ℕ) → place < length bs → length bs - place ≤ n → byte bs place ≡ 0 → end_from n bs place ≡ Ok place
 at_end zero bs place inside h e = absurd (omega arith)
 at_end (suc n) bs place inside h e =
     cond-false (leb (length bs) place) _ _ (lt-leb _ _ inside) ∙ cond-true (eqb (byte bs place) 0) _ _ (eq-eqb _ _ e)
-
-pub cut_off :
-    (n : ℕ) (bs : List ℕ) (place : ℕ) → place < length bs → length bs - place ≤ n → (byte bs place ≡ 0 → ⊥) →
-    length bs - place ≤ byte bs place → end_from n bs place ≡ Err (malformed Filing place)
-cut_off zero bs place inside h some short = absurd (omega arith)
-cut_off (suc n) bs place inside h some short =
-    cond-false (leb (length bs) place) _ _ (lt-leb _ _ inside) ∙
-    cond-false (eqb (byte bs place) 0) _ _ (ne_eqb _ _ some) ∙
-    cond-true (leb (length bs - place) (byte bs place)) _ _ (le-leb _ _ short)
 
 pub passed :
     (n : ℕ) (bs : List ℕ) (place : ℕ) → place < length bs → length bs - place ≤ n → (byte bs place ≡ 0 → ⊥) → byte bs place < length bs - place →

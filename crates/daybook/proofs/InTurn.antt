@@ -12,7 +12,6 @@ use Rattle.orders.specs.Steps.{Acts}
 use Rattle.pages.specs.Opening.{opened_page}
 use Rattle.pages.specs.Register.{page_at}
 use Rattle.pages.specs.declared.refusal.Refusal.{Refusal}
-use Rattle.pages.specs.declared.refusal.Refusal.TheVariants.{Done, NotThere, Waits}
 use Rattle.filings.specs.declared.filing.Filing.{Filing}
 use Rattle.entering.specs.Entering.{outcome}
 use Rattle.entering.specs.declared.outcome.Outcome.{Outcome}
@@ -163,9 +162,9 @@ module _ (all : List ℕ) (before : Image) where
 
     -- it was worked
     ready_if_done : (o : Outcome) (x : Answer Filing) → Ok o ≡ answered P n (page_at now.pages) x → is_ready (acts P) x ≡ true
-    ready_if_done o absent e = absurd (let z : ◌≡◌ {A = ℕ} 0 1 = cc in omega arith)
-    ready_if_done o finished e = absurd (let z : ◌≡◌ {A = ℕ} 0 1 = cc in omega arith)
-    ready_if_done o (waits j) e = absurd (let z : ◌≡◌ {A = ℕ} 0 1 = cc in omega arith)
+    ready_if_done o absent e = grind arith
+    ready_if_done o finished e = grind arith
+    ready_if_done o (waits j) e = grind arith
     ready_if_done o (ready f) e = refl
 
     on_done : (o : Outcome) → Works (Ok o) n now next → SoFar ns all (suc i) before next
@@ -184,10 +183,10 @@ module _ (all : List ℕ) (before : Image) where
 
     -- it was refused
     not_ready_if_refused : (e : Refusal) (x : Answer Filing) → Err e ≡ answered P n (page_at now.pages) x → (is_ready (acts P) x ≡ false) × (refusal_of x ≡ e) × (image_worked n x now ≡ now)
-    not_ready_if_refused e absent is = let same : NotThere ≡ e = cc in (refl, same, refl)
-    not_ready_if_refused e finished is = let same : Done ≡ e = cc in (refl, same, refl)
-    not_ready_if_refused e (waits j) is = let same : Waits j ≡ e = cc in (refl, same, refl)
-    not_ready_if_refused e (ready f) is = absurd (let z : ◌≡◌ {A = ℕ} 0 1 = cc in omega arith)
+    not_ready_if_refused e absent is = (refl, cc, refl)
+    not_ready_if_refused e finished is = (refl, cc, refl)
+    not_ready_if_refused e (waits j) is = (refl, cc, refl)
+    not_ready_if_refused e (ready f) is = absurd (grind arith)
 
     on_refused : (e : Refusal) → Works (Err e) n now next → Checks (Err (misplaced i e)) all before next
     unfolding checking desk_checked image_checked

@@ -77,7 +77,7 @@ row_more bs place end inside whole_filing r =
         λ i. filing i ∷ tail i
 
 never_ok : {A B : Type 0} {x : A} {y : B} → ◌≡◌ {A = Result B A} (Err x) (Ok y) → ⊥
-never_ok e = let z : ◌≡◌ {A = ℕ} 0 1 = cc in omega arith
+never_ok e = grind arith
 
 same_ok : {A B : Type 0} {x y : B} → ◌≡◌ {A = Result B A} (Ok x) (Ok y) → x ≡ y
 same_ok e = cc

@@ -58,10 +58,10 @@ impl<'a> DayBook<'a> {
         let end = filings_end(bytes, start)?;
         let order = &bytes[end + 1..];
         if order.len() % 2 == 1 {
-            Err(Malformed {
+            return Err(FileError::Malformed(Malformed {
                 lacks: Missing::Number,
                 at: bytes.len() - 1,
-            })?;
+            }));
         }
         Ok(DayBook {
             opening,
