@@ -2,7 +2,8 @@
 use Rattle.std.proofs.Common.{◌≡◌, ℕ, zero, suc, ◌+◌, ◌-◌, ◌<◌, ◌≤◌, Bool, true, false, cond, eqb, leb, List, [], ◌∷◌, length, drop, Some, None, Option, Ok, Bor, sym, refl, ap, ◌∙◌, subst, arith, length-drop}
 use Rattle.std.specs.Option.{unwrap_or}
 use Rattle.std.proofs.lemmas.List.{drop_all, drop-drop, drop_more}
-use Rattle.std.proofs.lemmas.Bool.{cond-true, cond-false, le-leb, lt-leb, leb-false, eq-eqb, ne_eqb}
+use Rattle.std.proofs.lemmas.Grind.{common_steps}
+use Rattle.std.proofs.lemmas.Bool.{leb-false}
 use Rattle.pages.specs.Bytes.{byte}
 use Rattle.daybook.specs.File.{end_from}
 
@@ -19,8 +20,8 @@ last_way false false false x y z v w h = h refl refl refl
 pub enough :
     (n m : ℕ) (bs : List ℕ) (place : ℕ) → length bs - place ≤ n → length bs - place ≤ m → end_from n bs place ≡ end_from m bs place
 enough zero zero bs place h k = refl
-enough zero (suc m) bs place h k = sym (cond-true (leb (length bs) place) _ _ (le-leb _ _ (omega arith)))
-enough (suc n) zero bs place h k = cond-true (leb (length bs) place) _ _ (le-leb _ _ (omega arith))
+enough zero (suc m) bs place h k = grind (arith, common_steps)
+enough (suc n) zero bs place h k = grind (arith, common_steps)
 enough (suc n) (suc m) bs place h k =
     last_way (leb (length bs) place) (eqb (byte bs place) 0) (leb (length bs - place) (byte bs place)) _ _ _ _ _
     (λ a b c.
@@ -30,18 +31,15 @@ enough (suc n) (suc m) bs place h k =
 -- one step: at the byte 0, and past a filing
 pub at_end : (n : ℕ) (bs : List ℕ) (place : ℕ) → place < length bs → length bs - place ≤ n → byte bs place ≡ 0 → end_from n bs place ≡ Ok place
 at_end zero bs place inside h e = absurd (omega arith)
-at_end (suc n) bs place inside h e =
-    cond-false (leb (length bs) place) _ _ (lt-leb _ _ inside) ∙ cond-true (eqb (byte bs place) 0) _ _ (eq-eqb _ _ e)
+at_end (suc n) bs place inside h e = grind (arith, common_steps)
 
 pub passed :
     (n : ℕ) (bs : List ℕ) (place : ℕ) → place < length bs → length bs - place ≤ n → (byte bs place ≡ 0 → ⊥) → byte bs place < length bs - place →
     (m : ℕ) → length bs - (place + (1 + byte bs place)) ≤ m → end_from n bs place ≡ end_from m bs (place + (1 + byte bs place))
 passed zero bs place inside h some whole m k = absurd (omega arith)
 passed (suc n) bs place inside h some whole m k =
-    cond-false (leb (length bs) place) _ _ (lt-leb _ _ inside) ∙
-    cond-false (eqb (byte bs place) 0) _ _ (ne_eqb _ _ some) ∙
-    cond-false (leb (length bs - place) (byte bs place)) _ _ (lt-leb _ _ whole) ∙
-    enough n m bs (place + (1 + byte bs place)) (omega arith) k
+    let later = enough n m bs (place + (1 + byte bs place)) (omega arith) k in
+    grind (arith, common_steps)
 
 -- IN THE CODE, WHICH GOES BY WHAT IS LEFT OF THE FILE
 

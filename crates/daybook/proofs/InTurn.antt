@@ -1,7 +1,8 @@
 -- Working a list in turn: what is kept at each number, and what follows at the first that is refused and at the end. Assumes nothing.
-use Rattle.std.proofs.Common.{◌≡◌, ℕ, zero, suc, ◌+◌, ◌<◌, ◌≤◌, true, false, not, ◌&&◌, List, [], ◌∷◌, length, get_or, drop, is_ok, Some, None, Ok, Err, Option, Result, sym, refl, ap, ◌∙◌, subst, ⊎_elim, add-one, drop-cons, arith}
-use Rattle.std.proofs.lemmas.Bool.{and_parts, cases_Bool, cond-true, cond-false, true≢false}
+use Rattle.std.proofs.Common.{◌≡◌, ℕ, zero, suc, ◌+◌, ◌<◌, ◌≤◌, true, false, not, ◌&&◌, List, [], ◌∷◌, length, get_or, drop, is_ok, Some, None, Ok, Err, Option, Result, sym, refl, ap, ◌∙◌, subst, add-one, drop-cons, arith}
+use Rattle.std.proofs.lemmas.Bool.{cond-true, cond-false, true≢false}
 use Rattle.std.proofs.lemmas.List.{drop_all}
+use Rattle.std.proofs.lemmas.Grind.{common_steps}
 use Rattle.std.specs.List.{slice_get}
 use Rattle.orders.proofs.Places.{nth_some, nth_there}
 use Rattle.orders.proofs.Reached.{kept_reached, reached}
@@ -65,18 +66,12 @@ module _ (P : ℕ) where
   allowed_is : (ns : List ℕ) (d : Desk _ _ _) (i : ℕ) → is_ok (checking P d i ns) ≡ accepted (acts P) d ns
   unfolding checking accepted
   allowed_is [] d i = refl
-  allowed_is (n ∷ ns) d i =
-      ⊎_elim
-      (λ t. ap is_ok (cond-true (is_ready (acts P) (asked (acts P) d n)) _ _ t) ∙ allowed_is ns (work (acts P) d n) (suc i) ∙ sym (ap (λ x. x && accepted (acts P) (work (acts P) d n) ns) t))
-      (λ f. ap is_ok (cond-false (is_ready (acts P) (asked (acts P) d n)) _ _ f) ∙ sym (ap (λ x. x && accepted (acts P) (work (acts P) d n) ns) f))
-      (cases_Bool (is_ready (acts P) (asked (acts P) d n)))
+  allowed_is (n ∷ ns) d i = let rest = allowed_is ns (work (acts P) d n) (suc i) in grind (arith, common_steps)
 
   all_worked : (ns : List ℕ) (d : Desk _ _ _) → accepted (acts P) d ns ≡ true → desk_checked P d ns ≡ worked_all (acts P) d ns
   unfolding accepted desk_checked worked_all
   all_worked [] d acc = refl
-  all_worked (n ∷ ns) d acc =
-      let both = and_parts _ _ acc in
-      cond-true (is_ready (acts P) (asked (acts P) d n)) _ _ both.0 ∙ all_worked ns (work (acts P) d n) both.1
+  all_worked (n ∷ ns) d acc = let rest = all_worked ns (work (acts P) d n) in grind (arith, common_steps)
 
 -- WHAT FOLLOWS
 

@@ -58,10 +58,11 @@ impl<'a> DayBook<'a> {
         let end = filings_end(bytes, start)?;
         let order = &bytes[end + 1..];
         if order.len() % 2 == 1 {
-            return Err(FileError::Malformed(Malformed {
+            return Err(Malformed {
                 lacks: Missing::Number,
                 at: bytes.len() - 1,
-            }));
+            }
+            .into());
         }
         Ok(DayBook {
             opening,
