@@ -1,13 +1,13 @@
 -- Working a list in turn: what is kept at each number, and what follows at the first that is refused and at the end. Assumes nothing.
 use Rattle.std.proofs.Common.{◌≡◌, ℕ, zero, suc, ◌+◌, ◌<◌, ◌≤◌, true, false, not, ◌&&◌, List, [], ◌∷◌, length, get_or, drop, is_ok, Some, None, Ok, Err, Option, Result, sym, refl, ap, ◌∙◌, subst, add-one, drop-cons, arith}
-use Rattle.std.proofs.lemmas.Bool.{cond-true, cond-false, true≢false}
+use Rattle.std.proofs.lemmas.Bool.{cond-false, true≢false}
 use Rattle.std.proofs.lemmas.List.{drop_all}
 use Rattle.std.proofs.lemmas.Grind.{common_steps}
 use Rattle.std.specs.List.{slice_get}
 use Rattle.orders.proofs.Places.{nth_some, nth_there}
 use Rattle.orders.proofs.Reached.{kept_reached, reached}
 use Rattle.orders.proofs.Rule.{accepted_is_done}
-use Rattle.orders.specs.Desk.{Answer, Desk, absent, finished, waits, ready, accepted, asked, if_ready, is_open, is_ready, by_work, open_at, open_from, touched_by, turn, work, worked_all}
+use Rattle.orders.specs.Desk.{Answer, Desk, absent, finished, waits, ready, accepted, asked, if_ready, is_open, is_ready, by_work, open_at, open_from, turn, work, worked_all}
 use Rattle.orders.specs.Orders.{Numbered, among}
 use Rattle.orders.specs.Steps.{Acts}
 use Rattle.pages.specs.Opening.{opened_page}
@@ -47,9 +47,7 @@ module _ {Page Act Result : Type 0} (w : Acts Page Act Result) where
   none_open : (d : Desk Page Act Result) (p : ℕ) → ((n : ℕ) → open_at d n ≡ false) → (i k : ℕ) → open_from w d p i k ≡ i + k
   unfolding open_from
   none_open d p shut i zero = omega arith
-  none_open d p shut i (suc k) =
-      cond-false (open_at d i && touched_by w i (slice_get d.filed i) p) i (open_from w d p (suc i) k) (ap (λ t. t && touched_by w i (slice_get d.filed i) p) (shut i)) ∙
-      none_open d p shut (suc i) k ∙ (omega arith)
+  none_open d p shut i (suc k) = let at = shut i in let rest = none_open d p shut (suc i) k in grind (arith, common_steps)
 
 pub record Came (bytes : List ℕ) (s : State) : Type 0 where
   pub log : List (Numbered Filing)
@@ -168,11 +166,12 @@ module _ (all : List ℕ) (before : Image) where
         let goes = ready_if_done o answer works.answer in
         let parcels = parcels_on (Ok o) works in
         let desk : desk_in next ≡ work (acts P) (desk_in now) n = ap (λ s. s.desk) works.state in
+        let image = works.image in
         record {
           parcels = parcels ∙ so_far.parcels;
-          left = (λ t. checking (parcels t) (desk t) (suc i) ns) ∙ sym (cond-true (is_ready (acts P) answer) _ _ goes) ∙ so_far.left;
-          desk = (λ t. desk_checked (parcels t) (desk t) ns) ∙ sym (cond-true (is_ready (acts P) answer) _ _ goes) ∙ so_far.desk;
-          image = ap (λ im. image_checked im ns) works.image ∙ sym (cond-true (is_ready (acts P) answer) _ _ goes) ∙ so_far.image;
+          left = let left = so_far.left in grind (arith, common_steps);
+          desk = let desks = so_far.desk in grind (arith, common_steps);
+          image = let images = so_far.image in grind (arith, common_steps);
           came = came_on (Ok o) works;
         }
 
