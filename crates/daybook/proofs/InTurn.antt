@@ -1,6 +1,6 @@
 -- Working a list in turn: what is kept at each number, and what follows at the first that is refused and at the end. Assumes nothing.
 use Rattle.std.proofs.Common.{◌≡◌, ℕ, zero, suc, ◌+◌, ◌<◌, ◌≤◌, true, false, not, ◌&&◌, List, [], ◌∷◌, length, get_or, drop, is_ok, Some, None, Ok, Err, Option, Result, sym, refl, ap, ◌∙◌, subst, add-one, drop-cons, arith}
-use Rattle.std.proofs.lemmas.Bool.{cond-false, true≢false}
+use Rattle.std.proofs.lemmas.Bool.{true≢false}
 use Rattle.std.proofs.lemmas.List.{drop_all}
 use Rattle.std.proofs.lemmas.Grind.{common_steps}
 use Rattle.std.specs.List.{slice_get}
@@ -187,10 +187,10 @@ module _ (all : List ℕ) (before : Image) where
     on_refused e works =
         let stops = not_ready_if_refused e answer works.answer in
         let same : next ≡ now = works.image ∙ stops.2 in
-        checks all before next (Err (misplaced i e))
-        (ap (λ x. Err (misplaced i x)) (sym stops.1) ∙ sym (cond-false (is_ready (acts P) answer) _ _ stops.0) ∙ so_far.left)
-        (same ∙ sym (cond-false (is_ready (acts P) answer) _ _ stops.0) ∙ so_far.image)
-        (ap desk_in same ∙ sym (cond-false (is_ready (acts P) answer) _ _ stops.0) ∙ so_far.desk)
+        let left = so_far.left in
+        let desks = so_far.desk in
+        let images = so_far.image in
+        checks all before next (Err (misplaced i e)) (grind (arith, common_steps)) (grind (arith, common_steps)) (grind (arith, common_steps))
         (ap (λ im. im.parcels) same ∙ so_far.parcels)
         (came_on (Err e) works)
 

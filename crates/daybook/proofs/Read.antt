@@ -90,9 +90,9 @@ row_read (suc n) bs place end e =
     by_tests :
         (a b c : Bool) (x z : Malformed) → (end_from n bs (place + (1 + byte bs place)) ≡ Ok end → Row bs (place + (1 + byte bs place)) end) → leb (length bs) place ≡ a → eqb (byte bs place) 0 ≡ b → leb (length bs - place) (byte bs place) ≡ c →
         ◌≡◌ {A = Result ℕ Malformed} (cond a (Err x) (cond b (Ok place) (cond c (Err z) (end_from n bs (place + (1 + byte bs place)))))) (Ok end) → Row bs place end
-    by_tests true b c x z later p q r h = absurd (never_ok h)
-    by_tests false true c x z later p q r h = row_none bs place end (same_ok h) (leb-false _ _ p) (eqb-true _ _ q)
-    by_tests false false true x z later p q r h = absurd (never_ok h)
+    by_tests true b c x z later p q r h = grind arith
+    by_tests false true c x z later p q r h = row_none bs place end (cc) (leb-false _ _ p) (eqb-true _ _ q)
+    by_tests false false true x z later p q r h = grind arith
     by_tests false false false x z later p q r h =
         row_more bs place end (leb-false _ _ p) (leb-false _ _ r) (later h)
 
