@@ -1,17 +1,18 @@
 -- Working a list in turn: what is kept at each number, and what follows at the first that is refused and at the end. Assumes nothing.
-use Rattle.std.proofs.Common.{◌≡◌, ℕ, zero, suc, ◌+◌, true, false, not, ◌&&◌, List, [], ◌∷◌, length, is_ok, Some, None, Ok, Err, Option, Result, sym, refl, ap, ◌∙◌, ⊎_elim, arith}
-use Rattle.std.proofs.lemmas.Bool.{and_parts, cases_Bool, cond-true, cond-false, true≢false}
+use Rattle.std.proofs.Common.{◌≡◌, ℕ, zero, suc, ◌+◌, ◌<◌, ◌≤◌, true, false, not, ◌&&◌, List, [], ◌∷◌, length, get_or, drop, is_ok, Some, None, Ok, Err, Option, Result, sym, refl, ap, ◌∙◌, subst, add-one, drop-cons, arith}
+use Rattle.std.proofs.lemmas.Bool.{true≢false}
+use Rattle.std.proofs.lemmas.List.{drop_all}
+use Rattle.std.proofs.lemmas.Grind.{common_steps}
 use Rattle.std.specs.List.{slice_get}
 use Rattle.orders.proofs.Places.{nth_some, nth_there}
 use Rattle.orders.proofs.Reached.{kept_reached, reached}
 use Rattle.orders.proofs.Rule.{accepted_is_done}
-use Rattle.orders.specs.Desk.{Answer, Desk, absent, finished, waits, ready, accepted, asked, if_ready, is_open, is_ready, by_work, open_at, open_from, touched_by, turn, work, worked_all}
+use Rattle.orders.specs.Desk.{Answer, Desk, absent, finished, waits, ready, accepted, asked, if_ready, is_open, is_ready, by_work, open_at, open_from, turn, work, worked_all}
 use Rattle.orders.specs.Orders.{Numbered, among}
 use Rattle.orders.specs.Steps.{Acts}
 use Rattle.pages.specs.Opening.{opened_page}
 use Rattle.pages.specs.Register.{page_at}
 use Rattle.pages.specs.declared.refusal.Refusal.{Refusal}
-use Rattle.pages.specs.declared.refusal.Refusal.TheVariants.{Done, NotThere, Waits}
 use Rattle.filings.specs.declared.filing.Filing.{Filing}
 use Rattle.entering.specs.Entering.{outcome}
 use Rattle.entering.specs.declared.outcome.Outcome.{Outcome}
@@ -46,9 +47,7 @@ module _ {Page Act Result : Type 0} (w : Acts Page Act Result) where
   none_open : (d : Desk Page Act Result) (p : ℕ) → ((n : ℕ) → open_at d n ≡ false) → (i k : ℕ) → open_from w d p i k ≡ i + k
   unfolding open_from
   none_open d p shut i zero = omega arith
-  none_open d p shut i (suc k) =
-      cond-false (open_at d i && touched_by w i (slice_get d.filed i) p) i (open_from w d p (suc i) k) (ap (λ t. t && touched_by w i (slice_get d.filed i) p) (shut i)) ∙
-      none_open d p shut (suc i) k ∙ (omega arith)
+  none_open d p shut i (suc k) = let at = shut i in let rest = none_open d p shut (suc i) k in grind (arith, common_steps)
 
 pub record Came (bytes : List ℕ) (s : State) : Type 0 where
   pub log : List (Numbered Filing)
@@ -65,18 +64,12 @@ module _ (P : ℕ) where
   allowed_is : (ns : List ℕ) (d : Desk _ _ _) (i : ℕ) → is_ok (checking P d i ns) ≡ accepted (acts P) d ns
   unfolding checking accepted
   allowed_is [] d i = refl
-  allowed_is (n ∷ ns) d i =
-      ⊎_elim
-      (λ t. ap is_ok (cond-true (is_ready (acts P) (asked (acts P) d n)) _ _ t) ∙ allowed_is ns (work (acts P) d n) (suc i) ∙ sym (ap (λ x. x && accepted (acts P) (work (acts P) d n) ns) t))
-      (λ f. ap is_ok (cond-false (is_ready (acts P) (asked (acts P) d n)) _ _ f) ∙ sym (ap (λ x. x && accepted (acts P) (work (acts P) d n) ns) f))
-      (cases_Bool (is_ready (acts P) (asked (acts P) d n)))
+  allowed_is (n ∷ ns) d i = let rest = allowed_is ns (work (acts P) d n) (suc i) in grind (arith, common_steps)
 
   all_worked : (ns : List ℕ) (d : Desk _ _ _) → accepted (acts P) d ns ≡ true → desk_checked P d ns ≡ worked_all (acts P) d ns
   unfolding accepted desk_checked worked_all
   all_worked [] d acc = refl
-  all_worked (n ∷ ns) d acc =
-      let both = and_parts _ _ acc in
-      cond-true (is_ready (acts P) (asked (acts P) d n)) _ _ both.0 ∙ all_worked ns (work (acts P) d n) both.1
+  all_worked (n ∷ ns) d acc = let rest = all_worked ns (work (acts P) d n) in grind (arith, common_steps)
 
 -- WHAT FOLLOWS
 
@@ -162,44 +155,70 @@ module _ (all : List ℕ) (before : Image) where
 
     -- it was worked
     ready_if_done : (o : Outcome) (x : Answer Filing) → Ok o ≡ answered P n (page_at now.pages) x → is_ready (acts P) x ≡ true
-    ready_if_done o absent e = absurd (let z : ◌≡◌ {A = ℕ} 0 1 = cc in omega arith)
-    ready_if_done o finished e = absurd (let z : ◌≡◌ {A = ℕ} 0 1 = cc in omega arith)
-    ready_if_done o (waits j) e = absurd (let z : ◌≡◌ {A = ℕ} 0 1 = cc in omega arith)
+    ready_if_done o absent e = grind arith
+    ready_if_done o finished e = grind arith
+    ready_if_done o (waits j) e = grind arith
     ready_if_done o (ready f) e = refl
 
-    pub on_done : (o : Outcome) → Works (Ok o) n now next → SoFar ns all (suc i) before next
+    on_done : (o : Outcome) → Works (Ok o) n now next → SoFar ns all (suc i) before next
     unfolding checking desk_checked image_checked
     on_done o works =
         let goes = ready_if_done o answer works.answer in
         let parcels = parcels_on (Ok o) works in
         let desk : desk_in next ≡ work (acts P) (desk_in now) n = ap (λ s. s.desk) works.state in
+        let image = works.image in
         record {
           parcels = parcels ∙ so_far.parcels;
-          left = (λ t. checking (parcels t) (desk t) (suc i) ns) ∙ sym (cond-true (is_ready (acts P) answer) _ _ goes) ∙ so_far.left;
-          desk = (λ t. desk_checked (parcels t) (desk t) ns) ∙ sym (cond-true (is_ready (acts P) answer) _ _ goes) ∙ so_far.desk;
-          image = ap (λ im. image_checked im ns) works.image ∙ sym (cond-true (is_ready (acts P) answer) _ _ goes) ∙ so_far.image;
+          left = let left = so_far.left in grind (arith, common_steps);
+          desk = let desks = so_far.desk in grind (arith, common_steps);
+          image = let images = so_far.image in grind (arith, common_steps);
           came = came_on (Ok o) works;
         }
 
     -- it was refused
     not_ready_if_refused : (e : Refusal) (x : Answer Filing) → Err e ≡ answered P n (page_at now.pages) x → (is_ready (acts P) x ≡ false) × (refusal_of x ≡ e) × (image_worked n x now ≡ now)
-    not_ready_if_refused e absent is = let same : NotThere ≡ e = cc in (refl, same, refl)
-    not_ready_if_refused e finished is = let same : Done ≡ e = cc in (refl, same, refl)
-    not_ready_if_refused e (waits j) is = let same : Waits j ≡ e = cc in (refl, same, refl)
-    not_ready_if_refused e (ready f) is = absurd (let z : ◌≡◌ {A = ℕ} 0 1 = cc in omega arith)
+    not_ready_if_refused e absent is = (refl, cc, refl)
+    not_ready_if_refused e finished is = (refl, cc, refl)
+    not_ready_if_refused e (waits j) is = (refl, cc, refl)
+    not_ready_if_refused e (ready f) is = absurd (grind arith)
 
-    pub on_refused : (e : Refusal) → Works (Err e) n now next → Checks (Err (misplaced i e)) all before next
+    on_refused : (e : Refusal) → Works (Err e) n now next → Checks (Err (misplaced i e)) all before next
     unfolding checking desk_checked image_checked
     on_refused e works =
         let stops = not_ready_if_refused e answer works.answer in
         let same : next ≡ now = works.image ∙ stops.2 in
-        checks all before next (Err (misplaced i e))
-        (ap (λ x. Err (misplaced i x)) (sym stops.1) ∙ sym (cond-false (is_ready (acts P) answer) _ _ stops.0) ∙ so_far.left)
-        (same ∙ sym (cond-false (is_ready (acts P) answer) _ _ stops.0) ∙ so_far.image)
-        (ap desk_in same ∙ sym (cond-false (is_ready (acts P) answer) _ _ stops.0) ∙ so_far.desk)
+        let left = so_far.left in
+        let desks = so_far.desk in
+        let images = so_far.image in
+        checks all before next (Err (misplaced i e)) (grind (arith, common_steps)) (grind (arith, common_steps)) (grind (arith, common_steps))
         (ap (λ im. im.parcels) same ∙ so_far.parcels)
         (came_on (Err e) works)
 
-  pub at_last : (i : ℕ) (now : Image) → SoFar [] all i before now → Checks (Ok tt) all before now
+  at_last : (i : ℕ) (now : Image) → SoFar [] all i before now → Checks (Ok tt) all before now
   unfolding checking desk_checked image_checked
   at_last i now so_far = checks all before now (Ok tt) so_far.left so_far.image so_far.desk so_far.parcels so_far.came
+
+  -- in the code, which goes by the place in the list
+  module _ (i : ℕ) (now : Image) (so_far : SoFar (drop i all) all i before now) where
+    pub all_done : length all ≤ i → Checks (Ok tt) all before now
+    all_done past = at_last i now (subst (λ l. SoFar l all i before now) (drop_all i all past) so_far)
+
+    module _ (inside : i < length all) (next : Image) (r : Result Outcome Refusal) (works : Works r (get_or all i 0) now next) where
+      here : SoFar (get_or all i 0 ∷ drop (suc i) all) all i before now
+      here = subst (λ l. SoFar l all i before now) (drop-cons all i 0 inside) so_far
+
+      pub goes_on : ((e : Refusal) → r ≡ Err e → ⊥) → SoFar (drop (i + 1) all) all (i + 1) before next
+      goes_on never = subst (λ (k : ℕ). SoFar (drop k all) all k before next) (sym (add-one i)) (by_result r works never)
+        where
+          by_result : (x : Result Outcome Refusal) → Works x (get_or all i 0) now next → ((e : Refusal) → x ≡ Err e → ⊥) → SoFar (drop (suc i) all) all (suc i) before next
+          by_result (Ok o) w never = on_done (get_or all i 0) (drop (suc i) all) i now next here o w
+          by_result (Err e) w never = absurd (never e refl)
+
+      pub stops : (q : Result (Unit {0}) Misplaced) → ((o : Outcome) → r ≡ Ok o → ⊥) → ((e : Refusal) → r ≡ Err e → q ≡ Err (misplaced i e)) → Checks q all before next
+      stops q never told = by_result r works never told
+        where
+          by_result :
+              (x : Result Outcome Refusal) → Works x (get_or all i 0) now next → ((o : Outcome) → x ≡ Ok o → ⊥) →
+              ((e : Refusal) → x ≡ Err e → q ≡ Err (misplaced i e)) → Checks q all before next
+          by_result (Ok o) w never told = absurd (never o refl)
+          by_result (Err e) w never told = subst (λ y. Checks y all before next) (sym (told e refl)) (on_refused (get_or all i 0) (drop (suc i) all) i now next here e w)

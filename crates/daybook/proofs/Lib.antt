@@ -3,5 +3,5 @@ pub mod InTurn
 pub mod Ends
 pub mod Read
 pub mod Reading
-pub mod Rows
+pub mod Cuts
 pub mod Written

@@ -76,23 +76,17 @@ row_more bs place end inside whole_filing r =
         let tail = ap (λ l. take b ys ++ l) (rest m (omega arith)) ∙ take-append-drop b ys in
         λ i. filing i ∷ tail i
 
-never_ok : {A B : Type 0} {x : A} {y : B} → ◌≡◌ {A = Result B A} (Err x) (Ok y) → ⊥
-never_ok e = let z : ◌≡◌ {A = ℕ} 0 1 = cc in omega arith
-
-same_ok : {A B : Type 0} {x y : B} → ◌≡◌ {A = Result B A} (Ok x) (Ok y) → x ≡ y
-same_ok e = cc
-
 row_read : (n : ℕ) (bs : List ℕ) (place end : ℕ) → end_from n bs place ≡ Ok end → Row bs place end
-row_read zero bs place end e = absurd (never_ok e)
+row_read zero bs place end e = grind arith
 row_read (suc n) bs place end e =
     by_tests (leb (length bs) place) (eqb (byte bs place) 0) (leb (length bs - place) (byte bs place)) _ _ (row_read n bs (place + (1 + byte bs place)) end) refl refl refl e
   where
     by_tests :
         (a b c : Bool) (x z : Malformed) → (end_from n bs (place + (1 + byte bs place)) ≡ Ok end → Row bs (place + (1 + byte bs place)) end) → leb (length bs) place ≡ a → eqb (byte bs place) 0 ≡ b → leb (length bs - place) (byte bs place) ≡ c →
         ◌≡◌ {A = Result ℕ Malformed} (cond a (Err x) (cond b (Ok place) (cond c (Err z) (end_from n bs (place + (1 + byte bs place)))))) (Ok end) → Row bs place end
-    by_tests true b c x z later p q r h = absurd (never_ok h)
-    by_tests false true c x z later p q r h = row_none bs place end (same_ok h) (leb-false _ _ p) (eqb-true _ _ q)
-    by_tests false false true x z later p q r h = absurd (never_ok h)
+    by_tests true b c x z later p q r h = grind arith
+    by_tests false true c x z later p q r h = row_none bs place end (cc) (leb-false _ _ p) (eqb-true _ _ q)
+    by_tests false false true x z later p q r h = grind arith
     by_tests false false false x z later p q r h =
         row_more bs place end (leb-false _ _ p) (leb-false _ _ r) (later h)
 
@@ -118,16 +112,16 @@ whole_if_read bs p e =
       end = end;
       row = row_read (length bs) bs (filings_start bs) end ends;
       even = eqb-true _ _ s;
-      is = sym (same_ok h);
+      is = cc;
     }
-    by_order false end x s two_there good ends h = absurd (never_ok h)
+    by_order false end x s two_there good ends h = grind arith
 
     by_length :
         (t : Bool) (x : FileError) → ltb (length bs) 2 ≡ t → (o : Result (Unit {0}) Refusal) → checked (two bs 0) (pages_in bs) ≡ o → (f : Result ℕ Malformed) →
         end_from (length bs) bs (filings_start bs) ≡ f → cond t (Err x) (unless_refused o (read_to bs f)) ≡ Ok p → Whole bs p
-    by_length true x s o q f r h = absurd (never_ok h)
-    by_length false x s (Err y) q f r h = absurd (never_ok h)
-    by_length false x s (Ok u) q (Err m) r h = absurd (never_ok h)
+    by_length true x s o q f r h = grind arith
+    by_length false x s (Err y) q f r h = grind arith
+    by_length false x s (Ok u) q (Err m) r h = grind arith
     by_length false x s (Ok u) q (Ok end) r h = by_order (eqb ((length bs - (end + 1)) % 2) 0) end _ refl (ltb-false _ _ s) q r h
 
 -- the first two bytes are those of the number that they were read as

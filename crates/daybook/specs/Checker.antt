@@ -1,10 +1,11 @@
 -- When an order of work is allowed, and what it leaves. Assumes nothing.
-use Rattle.std.specs.Prelude.{◌≡◌, ℕ, suc, true, false, cond, List, [], ◌∷◌, length, is_ok, Some, None, Ok, Err, Option, Result}
+use Rattle.std.specs.Prelude.{◌≡◌, ℕ, suc, true, false, cond, List, [], ◌∷◌, ◌++◌, length, codes, decimal, is_ok, Some, Ok, Err, Result}
 use Rattle.std.specs.List.{slice_get}
 use Rattle.orders.specs.Desk.{Answer, Desk, absent, finished, waits, ready, accepted, asked, is_ready, open_at, turn, work, worked_all}
 use Rattle.orders.specs.Orders.{Numbered, among}
 use Rattle.entries.specs.Sheet.{Sheet}
 use Rattle.pages.specs.Opening.{opened_page}
+use Rattle.pages.specs.Refusal.{refusal_text}
 use Rattle.pages.specs.declared.refusal.Refusal.{Refusal}
 use Rattle.pages.specs.declared.refusal.Refusal.TheVariants.{Done, NotThere, Waits}
 use Rattle.filings.specs.declared.filing.Filing.{Filing}
@@ -26,9 +27,9 @@ refusal_of (ready f) = Done
 abbrev pub misplaced : ℕ → Refusal → Misplaced
 misplaced place refusal = record { place = place; refusal = refusal }
 
-abbrev pub verdict : Option Misplaced → Result (Unit {0}) Misplaced
-verdict None = Ok tt
-verdict (Some m) = Err m
+-- as 'number 3 of the order: refused 9 at 0'
+abbrev pub misplaced_text : Misplaced → List ℕ
+misplaced_text m = codes "number " ++ (decimal m.place ++ (codes " of the order: refused " ++ refusal_text m.refusal))
 
 -- the numbers from a place of the list on: allowed, or the first place where one would not be worked
 unfoldable pub checking : ℕ → Desk Sheet Filing Outcome → ℕ → List ℕ → Result (Unit {0}) Misplaced

@@ -1,6 +1,5 @@
 -- The file that the programs read: what it is to say, and how it is taken apart. Assumes nothing.
 use Rattle.std.specs.Prelude.{ℕ, zero, suc, ◌+◌, ◌-◌, ◌*◌, ◌/◌, ◌%◌, cond, List, [], ◌∷◌, ◌++◌, length, take, drop, Some, None, Ok, Err, Option, Result, ◌==◌, nat_le, nat_lt}
-use Rattle.std.specs.Borrow.{Bor}
 use Rattle.std.specs.List.{flat_map}
 use Rattle.pages.specs.Bytes.{byte, two}
 use Rattle.pages.specs.Opening.{checked}
@@ -11,6 +10,8 @@ use Rattle.daybook.specs.declared.error.Malformed.{Malformed}
 use Rattle.daybook.specs.declared.error.FileError.{FileError}
 use Rattle.daybook.specs.declared.error.FileError.TheVariants as fault
 use Rattle.daybook.specs.declared.file.DayBook.{DayBook}
+use Rattle.daybook.specs.declared.rows.Filings.{Filings}
+use Rattle.daybook.specs.declared.rows.Numbers.{Numbers}
 
 -- what a file says
 pub record Parts : Type 0 where
@@ -41,13 +42,6 @@ cut zero bs = []
 cut (suc n) [] = []
 cut (suc n) (b ∷ bs) = take b bs ∷ cut n (drop b bs)
 
-abbrev pub first_filing : List ℕ → Option (List ℕ × List ℕ)
-first_filing [] = None
-first_filing (b ∷ bs) = Some (take b bs, drop b bs)
-
-abbrev pub two_parts : Bor (List ℕ) × Bor (List ℕ) → List ℕ × List ℕ
-two_parts x = (x.0.now, x.1.now)
-
 abbrev pub filings_in : List ℕ → List (List ℕ)
 filings_in bs = cut (length bs) bs
 
@@ -56,9 +50,16 @@ numbers_in [] = []
 numbers_in (a ∷ []) = []
 numbers_in (a ∷ b ∷ bs) = (a + b * 256) ∷ numbers_in bs
 
+-- what the iterators have left
+abbrev pub filings_left : Filings → List (List ℕ)
+filings_left it = filings_in it.rest.now
+
+abbrev pub numbers_left : Numbers → List ℕ
+numbers_left it = numbers_in it.rest.now
+
 -- what the code has taken apart
 abbrev pub parts : DayBook → Parts
-parts d = record { parcels = d.parcels; pages = d.pages.now; filings = filings_in d.filings.now; order = numbers_in d.order.now }
+parts d = record { parcels = d.opening.parcels; pages = d.opening.pages.now; filings = filings_in d.filings.now; order = numbers_in d.order.now }
 
 abbrev pub malformed : Missing → ℕ → Malformed
 malformed what place = record { lacks = what; at = place }
@@ -113,7 +114,7 @@ pub record Bytes : Type 0 where
   pub order : List ℕ
 
 abbrev pub bytes_of : DayBook → Bytes
-bytes_of d = record { parcels = d.parcels; pages = d.pages.now; filings = d.filings.now; order = d.order.now }
+bytes_of d = record { parcels = d.opening.parcels; pages = d.opening.pages.now; filings = d.filings.now; order = d.order.now }
 
 -- the last number is no part of the order: it is the parcel
 abbrev pub last_taken : Bytes → Option (Bytes × ℕ)

@@ -5,3 +5,4 @@ pub mod checker;
 pub mod error;
 pub mod file;
 pub mod laws;
+pub mod rows;

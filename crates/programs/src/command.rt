@@ -1,5 +1,5 @@
 // The command line: what was asked for, and the bytes to work on.
-use anyhow::anyhow;
+use anyhow::{anyhow, bail};
 use std::io::Read;
 use std::{env, fs};
 
@@ -19,27 +19,16 @@ pub(crate) struct Job {
     pub file: Option<String>,
 }
 
-fn is_flag(word: &str, flag: Option<&str>) -> bool {
-    match flag {
-        Some(own) => word == own,
-        None => false,
-    }
-}
-
 // What a program's words ask for, in any order; its usage is the error where they make no sense.
 pub(crate) fn asked(rt: &HostRuntime, flag: Option<&str>, usage: &str) -> anyhow::Result<Command> {
     let mut flagged = false;
     let mut file = None;
-    let mut words = env::args(rt)?;
-    let _ = words.next();
-    for word in words {
+    for word in env::args(rt)?.skip(1) {
         match word.as_str() {
             "--help" => return Ok(Command::Help),
             "--version" => return Ok(Command::Version),
-            own if is_flag(own, flag) && !flagged => flagged = true,
-            other if other.starts_with("-") || file.is_some() => return Err(anyhow!(
-                format!(in rt.alloc(); "{usage}")?
-            )),
+            own if Some(own) == flag && !flagged => flagged = true,
+            other if other.starts_with("-") || file.is_some() => bail!("{usage}"),
             _ => file = Some(word),
         }
     }
@@ -53,8 +42,5 @@ pub(crate) fn input(rt: &HostRuntime, file: Option<String>) -> anyhow::Result<Ve
         rt.stdin().read_to_end(&mut bytes)?;
         return Ok(bytes);
     };
-    match fs::read(rt, name.as_str()) {
-        Ok(bytes) => Ok(bytes),
-        Err(error) => Err(anyhow!(format!(in rt.alloc(); "cannot read {name}: {error}")?)),
-    }
+    fs::read(rt, name.as_str()).map_err(|error| anyhow!("cannot read {name}: {error}"))
 }

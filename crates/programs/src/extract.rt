@@ -1,7 +1,6 @@
 // Works through a file of filings and prints the extract of a parcel.
-use crate::command::{Command, asked, input};
-use crate::office::{Office, file_all, work_all};
-use anyhow::anyhow;
+use crate::office::{Office, file_all, tell_unworked, work_all};
+use crate::program::Program;
 use daybook::error::{FileError, Malformed, Missing};
 use daybook::file::DayBook;
 use extracts::error::ExtractError;
@@ -27,7 +26,7 @@ their rank, and the open filings that touch it:
 
     --version    prints the version";
 
-// The extract of a parcel, or why there is none.
+// The extract of a parcel, or that its number is refused.
 fn draw<W: Write>(
     registry: &Registry,
     heap: Global,
@@ -36,8 +35,8 @@ fn draw<W: Write>(
 ) -> anyhow::Result<()> {
     match Extract::of(registry, heap, parcel) {
         Ok(extract) => writeln!(out, "{extract}")?,
-        Err(ExtractError::Refused(refusal)) => writeln!(out, "extract refused {refusal}")?,
-        Err(ExtractError::NoMemory) => return Err(anyhow!("no memory for the extract")),
+        Err(error @ ExtractError::Refused(_)) => writeln!(out, "extract {error}")?,
+        Err(error) => return Err(error.into()),
     }
     Ok(())
 }
@@ -51,25 +50,21 @@ fn extract_of_book<W: Write>(
 ) -> anyhow::Result<()> {
     let mut office = Office::for_book(heap, book)?;
     let mut registry = office.registry();
-    if let Err(refusal) = registry.open(book.parcels, book.pages) {
-        writeln!(out, "opening refused {refusal}")?;
-        return Ok(());
+    if let Err(refusal) = registry.open(book.opening) {
+        return tell_unworked(refusal.into(), out);
     }
     let mut untold = io::sink();
-    file_all(&mut registry, book.filings, &mut untold)?;
-    work_all(&mut registry, book.order, &mut untold)?;
+    file_all(&mut registry, book, &mut untold)?;
+    work_all(&mut registry, book, &mut untold)?;
     draw(&registry, heap, parcel, out)
 }
 
 // A file whose order is followed by a parcel.
 fn read(bytes: &[u8]) -> Result<(DayBook<'_>, u16), FileError> {
-    let book = DayBook::read(bytes)?;
-    let Some(both) = book.with_parcel() else {
-        return Err(FileError::Malformed(Malformed {
-            lacks: Missing::Parcel,
-            at: bytes.len(),
-        }));
-    };
+    let both = DayBook::read(bytes)?.with_parcel().ok_or(Malformed {
+        lacks: Missing::Parcel,
+        at: bytes.len(),
+    })?;
     Ok(both)
 }
 
@@ -78,31 +73,18 @@ pub fn extract_of_file(rt: &HostRuntime, bytes: &[u8]) -> anyhow::Result<()> {
     let mut out = BufWriter::new(rt.alloc(), rt.stdout())?;
     match read(bytes) {
         Ok((book, parcel)) => extract_of_book(rt.alloc(), book, parcel, &mut out)?,
-        Err(FileError::Refused(refusal)) => writeln!(out, "opening refused {refusal}")?,
-        Err(FileError::Malformed(malformed)) => {
-            return Err(anyhow!(format!(in rt.alloc(); "malformed file: {malformed}")?));
-        }
+        Err(error) => tell_unworked(error, &mut out)?,
     }
     out.flush()?;
     Ok(())
 }
 
-fn run(rt: &HostRuntime) -> anyhow::Result<()> {
-    match asked(rt, None, USAGE)? {
-        Command::Help => println!(rt; "{HELP}")?,
-        Command::Version => println!(rt; "register_extract 1")?,
-        Command::Run(job) => {
-            let bytes = input(rt, job.file)?;
-            extract_of_file(rt, bytes.as_slice())?;
-        }
-    }
-    Ok(())
-}
-
 pub fn register_extract(rt: &HostRuntime) -> anyhow::Result<()> {
-    let result = run(rt);
-    if let Err(error) = &result {
-        let _ = eprintln!(rt; "register_extract: {error}");
-    }
-    result
+    let program = Program {
+        name: "register_extract",
+        flag: None,
+        usage: USAGE,
+        help: HELP,
+    };
+    program.run(rt, |rt, bytes, _| extract_of_file(rt, bytes))
 }

@@ -6,4 +6,5 @@ pub mod ending;
 pub mod extract;
 mod line;
 mod office;
+mod program;
 pub mod working;

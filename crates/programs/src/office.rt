@@ -1,9 +1,9 @@
 // A registry in memory from the heap, and a day book put through it.
 use crate::line::Line;
-use daybook::file::{DayBook, next_filing};
+use daybook::error::FileError;
+use daybook::file::DayBook;
 use filings::slots::SLOT_BYTES;
 use filings::taking::MOST_FILINGS;
-use pages::bytes::two_at;
 use pages::words::PAGE_WORDS;
 use std::alloc::{AllocError, Global};
 use std::io;
@@ -18,24 +18,11 @@ pub(crate) struct Office {
     marks: Vec<u8>,
 }
 
-fn filings_in(row: &[u8]) -> usize {
-    let mut count = 0usize;
-    let mut rest = row;
-    for _ in 0..row.len() {
-        let Some((_, behind)) = next_filing(rest) else {
-            break;
-        };
-        count = count.saturating_add(1);
-        rest = behind;
-    }
-    count
-}
-
 impl Office {
     // Room for the parcels and filings of a day book, and for the pages that those filings may make.
     pub(crate) fn for_book(heap: Global, book: DayBook) -> Result<Office, AllocError> {
-        let filings = filings_in(book.filings).min(MOST_FILINGS as usize);
-        let pages = book.parcels as usize + 2 * filings;
+        let filings = book.filings().take(usize::from(MOST_FILINGS)).count();
+        let pages = usize::from(book.opening.parcels) + 2 * filings;
         Ok(Office {
             pages: vec![in heap; 0u64; PAGE_WORDS * pages]?,
             filings: vec![in heap; 0u8; SLOT_BYTES * filings]?,
@@ -52,36 +39,39 @@ impl Office {
     }
 }
 
-// Takes filings in, one after another, and tells of each that is turned away.
+// Takes the filings in, one after another, and tells of each that is turned away.
 pub(crate) fn file_all<W: Write>(
     registry: &mut Registry,
-    filings: &[u8],
+    book: DayBook,
     out: &mut W,
 ) -> io::Result<()> {
-    let mut rest = filings;
-    for _ in 0..filings.len() {
-        let Some((filing, behind)) = next_filing(rest) else {
-            break;
-        };
+    for filing in book.filings() {
         if let Err(refusal) = registry.file(filing) {
             writeln!(out, "filing refused {refusal}")?;
         }
-        rest = behind;
     }
     Ok(())
 }
 
-// Works the numbers of an order, one after another, and tells what came of each.
+// Works the numbers of the order, one after another, and tells what came of each.
 pub(crate) fn work_all<W: Write>(
     registry: &mut Registry,
-    order: &[u8],
+    book: DayBook,
     out: &mut W,
 ) -> io::Result<()> {
-    for bytes in order.chunks_exact(2) {
-        let number = two_at(bytes, 0);
+    for number in book.numbers() {
         let answer = registry.work(number);
         let line = Line { number, answer };
         writeln!(out, "{line}")?;
+    }
+    Ok(())
+}
+
+// Tells why a file is not worked: of a refused opening as of any other answer, of a malformed file as of an error.
+pub(crate) fn tell_unworked<W: Write>(error: FileError, out: &mut W) -> anyhow::Result<()> {
+    match error {
+        FileError::Refused(_) => writeln!(out, "{error}")?,
+        FileError::Malformed(_) => return Err(error.into()),
     }
     Ok(())
 }

@@ -1,8 +1,6 @@
 // Works through a file of filings and prints what happened, a line for each.
-use crate::command::{Command, asked, input};
-use crate::office::{Office, file_all, work_all};
-use anyhow::anyhow;
-use daybook::error::FileError;
+use crate::office::{Office, file_all, tell_unworked, work_all};
+use crate::program::Program;
 use daybook::file::DayBook;
 use std::alloc::Global;
 use std::io;
@@ -30,39 +28,17 @@ An opening that is refused is told of by 'opening refused 2 at 12', and nothing 
 
 // As `ready 4 7`, or `ready none`.
 fn tell_ready<W: Write>(registry: &Registry, out: &mut W) -> io::Result<()> {
+    let Some(first) = registry.next_ready(0) else {
+        return writeln!(out, "ready none");
+    };
     write!(out, "ready")?;
-    let mut from = 0u16;
-    for _ in 0..registry.filed {
-        let Some(number) = registry.next_ready(from) else {
-            break;
-        };
+    for number in (first..registry.filed).filter(|&number| registry.ask(number).is_ok()) {
         write!(out, " {number}")?;
-        from = number.saturating_add(1);
-    }
-    if from == 0 {
-        write!(out, " none")?;
     }
     writeln!(out)
 }
 
 // Opens, files all, and works the order. What `DayBook::read` took can be refused only for want of room.
-fn put_through<W: Write>(
-    registry: &mut Registry,
-    book: DayBook,
-    ready: bool,
-    out: &mut W,
-) -> io::Result<()> {
-    if let Err(refusal) = registry.open(book.parcels, book.pages) {
-        return writeln!(out, "opening refused {refusal}");
-    }
-    file_all(registry, book.filings, out)?;
-    work_all(registry, book.order, out)?;
-    if ready {
-        tell_ready(registry, out)?;
-    }
-    Ok(())
-}
-
 fn work_book<W: Write>(
     heap: Global,
     book: DayBook,
@@ -71,7 +47,14 @@ fn work_book<W: Write>(
 ) -> anyhow::Result<()> {
     let mut office = Office::for_book(heap, book)?;
     let mut registry = office.registry();
-    put_through(&mut registry, book, ready, out)?;
+    if let Err(refusal) = registry.open(book.opening) {
+        return tell_unworked(refusal.into(), out);
+    }
+    file_all(&mut registry, book, out)?;
+    work_all(&mut registry, book, out)?;
+    if ready {
+        tell_ready(&registry, out)?;
+    }
     Ok(())
 }
 
@@ -79,32 +62,18 @@ fn work_file(rt: &HostRuntime, bytes: &[u8], ready: bool) -> anyhow::Result<()> 
     let mut out = BufWriter::new(rt.alloc(), rt.stdout())?;
     match DayBook::read(bytes) {
         Ok(book) => work_book(rt.alloc(), book, ready, &mut out)?,
-        Err(FileError::Refused(refusal)) => writeln!(out, "opening refused {refusal}")?,
-        Err(FileError::Malformed(malformed)) => {
-            return Err(anyhow!(format!(in rt.alloc(); "malformed file: {malformed}")?));
-        }
+        Err(error) => tell_unworked(error, &mut out)?,
     }
     out.flush()?;
     Ok(())
 }
 
-fn run(rt: &HostRuntime) -> anyhow::Result<()> {
-    match asked(rt, Some("--ready"), USAGE)? {
-        Command::Help => println!(rt; "{HELP}")?,
-        Command::Version => println!(rt; "register_work 1")?,
-        Command::Run(job) => {
-            let ready = job.flagged;
-            let bytes = input(rt, job.file)?;
-            work_file(rt, bytes.as_slice(), ready)?;
-        }
-    }
-    Ok(())
-}
-
 pub fn register_work(rt: &HostRuntime) -> anyhow::Result<()> {
-    let result = run(rt);
-    if let Err(error) = &result {
-        let _ = eprintln!(rt; "register_work: {error}");
-    }
-    result
+    let program = Program {
+        name: "register_work",
+        flag: Some("--ready"),
+        usage: USAGE,
+        help: HELP,
+    };
+    program.run(rt, work_file)
 }

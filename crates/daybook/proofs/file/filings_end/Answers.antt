@@ -1,24 +1,16 @@
-use Rattle.std.proofs.Common.{◌-◌, length, sym, ◌∙◌, arith}
-use Rattle.daybook.proofs.Ends.{enough, at_end, cut_off, passed}
+use Rattle.std.proofs.Common.{◌≡◌, ◌∷◌, ◌≤◌, length, drop, subst, refl, arith}
+use Rattle.std.proofs.lemmas.Grind.{common_steps}
+use Rattle.daybook.proofs.Ends.{Left, first_left, goes_on}
 use Rattle.daybook.proofs.file.filings_end.Goals as goal
 
-pub loop-at-init : goal.loop-at-init
-loop-at-init c = (omega arith, enough _ _ c.args.bytes.now c.args.start (omega arith) (omega arith))
+pub loop-length-init : goal.loop-length-init
+loop-length-init c =
+    rw c.unwrap_or-rest.ensures (first_left c.args.bytes.now c.args.start c.get.result _ refl (λ none. grind (arith, common_steps)) (λ x some. (grind (arith, common_steps), grind (arith, common_steps))))
 
-pub returns-then-length-eq0 : goal.returns-then-length-eq0
-returns-then-length-eq0 c = record {
-  value = sym (at_end (length c.args.bytes.now - c.loop-at.at) c.args.bytes.now c.loop-at.at (omega arith) (omega arith) (omega arith)) ∙ c.loop-at.invariant.1;
-  within = (omega arith, omega arith);
-}
-
-pub returns-then-bytes-at : goal.returns-then-bytes-at
-returns-then-bytes-at c = record {
-  value = sym (cut_off (length c.args.bytes.now - c.loop-at.at) c.args.bytes.now c.loop-at.at (omega arith) (omega arith) (omega arith) (omega arith)) ∙ c.loop-at.invariant.1;
-  within = tt;
-}
-
-pub loop-at-preserved : goal.loop-at-preserved
-loop-at-preserved c = (
-  omega arith,
-  sym (passed (length c.args.bytes.now - c.loop-at.at) c.args.bytes.now c.loop-at.at (omega arith) (omega arith) (omega arith) (omega arith) _ (omega arith)) ∙ c.loop-at.invariant.1,
-)
+pub loop-length-preserved : goal.loop-length-preserved
+loop-length-preserved c =
+    let whole : c.loop-length.rest.now ≡ c.in-Some.field-0-0.now ∷ c.in-Some.behind.now = grind (arith, common_steps) in
+    let within : c.in-Some.field-0-0.now ≤ length c.in-Some.behind.now = grind (arith, common_steps) in
+    let next : drop c.in-Some.field-0-0.now c.in-Some.behind.now ≡ c.in_ok-rest.rest.now = grind (arith, common_steps) in
+    subst (Left c.args.bytes.now c.args.start) next
+    (goes_on c.args.bytes.now c.args.start c.in-Some.field-0-0.now c.in-Some.behind.now (subst (Left c.args.bytes.now c.args.start) whole c.loop-length.invariant) c.if-length-eq0.false within)

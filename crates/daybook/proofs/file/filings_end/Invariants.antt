@@ -1,10 +1,10 @@
-use Rattle.std.proofs.Common.{◌≡◌, ◌-◌, ◌≤◌, length}
-use Rattle.daybook.specs.File.{end_from}
+use Rattle.std.proofs.Common.{length}
+use Rattle.daybook.proofs.Ends.{Left}
 use Rattle.daybook.proofs.file.filings_end.Given as goal
 
 -- what is left of the file decides
-abbrev pub invariant-loop-at : goal.invariant-loop-at
-invariant-loop-at l = (l.start ≤ l.at) × (end_from (length l.bytes - l.at) l.bytes l.at ≡ end_from (length l.bytes) l.bytes l.start)
+abbrev pub invariant-loop-length : goal.invariant-loop-length
+invariant-loop-length l = Left l.bytes l.start l.rest
 
-abbrev pub decreases-loop-at : goal.decreases-loop-at
-decreases-loop-at l = length l.bytes - l.at
+abbrev pub decreases-loop-length : goal.decreases-loop-length
+decreases-loop-length l = length l.rest
