@@ -4,7 +4,8 @@ use Rattle.std.proofs.lemmas.Bool.{true≢false}
 use Rattle.std.proofs.lemmas.List.{drop_all}
 use Rattle.std.proofs.lemmas.Grind.{common_steps}
 use Rattle.std.specs.List.{slice_get}
-use Rattle.orders.proofs.Places.{nth_some, nth_there}
+use Rattle.orders.proofs.Places.{nth_there}
+use Rattle.std.proofs.lemmas.Option.{slice_get_within}
 use Rattle.orders.proofs.Reached.{kept_reached, reached}
 use Rattle.orders.proofs.Rule.{accepted_is_done}
 use Rattle.orders.specs.Desk.{Answer, Desk, absent, finished, waits, ready, accepted, asked, if_ready, is_open, is_ready, by_work, open_at, open_from, turn, work, worked_all}
@@ -83,7 +84,7 @@ module _ (bytes : List ℕ) (s : State) (came : Came bytes s) (shut : (n : ℕ) 
             as_filed.page p ∙
             ap (λ k. turn (acts s.parcels) (opened_page s.parcels bytes) s.desk.filed k p) (none_open (acts s.parcels) s.desk p shut 0 (length s.desk.filed) ∙ omega arith);
         outcomes = λ n f is.
-            let within = nth_some s.desk.filed n f is in
+            let within = slice_get_within s.desk.filed n f is in
             let size = (kept_reached (acts s.parcels) (filings_are_local s.parcels) (opened_page s.parcels bytes) (reached (acts s.parcels) (filings_are_local s.parcels) (opened_page s.parcels bytes) came.from.reached)).as_long in
             let mark = nth_there s.desk.marks n (omega arith) in
             by_mark n f is mark.0 mark.1;

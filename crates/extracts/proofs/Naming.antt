@@ -2,7 +2,7 @@
 use Rattle.std.proofs.Common.{◌≡◌, ℕ, ◌<◌, ◌≤◌, Bool, true, false, cond, ◌&&◌, List, [], ◌∷◌, ◌+◌, length, get_or, Ok, Err, vec_items, sym, ap, ◌∙◌, ⊎_elim, zero-le, arith}
 use Rattle.std.proofs.lemmas.Bool.{cases_lt}
 use Rattle.std.specs.List.{slice_get}
-use Rattle.orders.proofs.Places.{nth_none}
+use Rattle.std.proofs.lemmas.Option.{slice_get_past}
 use Rattle.orders.proofs.Reached.{first_is}
 use Rattle.orders.specs.Desk.{first_open, open_at, touched_by, turn}
 use Rattle.entries.specs.Sheet.{Sheet, sheet}
@@ -34,7 +34,7 @@ module _ (s : State) (p : ℕ) where
       (λ (there : i < n).
       ap (λ t. t && touched_by (acts s.parcels) i (slice_get s.desk.filed i) p) (sym still) ∙
       (first_is (acts s.parcels) (filings_are_local s.parcels) s.desk p 0 n).below i zero-le (omega arith))
-      (λ (behind : n ≤ i). ap (λ o. touched_by (acts s.parcels) i o p) (nth_none s.desk.filed i behind))
+      (λ (behind : n ≤ i). ap (λ o. touched_by (acts s.parcels) i o p) (slice_get_past s.desk.filed i behind))
       (cases_lt i n)
 
   first_in : (ns : List ℕ) → ns ≡ all_open s p → first_open (acts s.parcels) s.desk p ≡ get_or ns 0 (0 + n)

@@ -6,15 +6,14 @@ use std::test::*;
 
 // What a file is told to be: its parts by their lengths, or the error.
 fn lengths(bytes: &[u8]) -> Result<(u16, usize, usize, usize), FileError> {
-    match DayBook::read(bytes) {
-        Ok(book) => Ok((
-            book.parcels,
-            book.pages.len(),
+    DayBook::read(bytes).map(|book| {
+        (
+            book.opening.parcels,
+            book.opening.pages.len(),
             book.filings.len(),
             book.order.len(),
-        )),
-        Err(error) => Err(error),
-    }
+        )
+    })
 }
 
 fn malformed(lacks: Missing, at: usize) -> FileError {
