@@ -44,6 +44,7 @@ pub(crate) fn filled(
     page.fill(name, amount).ok_or(Rejection::NoEntry)
 }
 
+// What the holder alone signs. Two functions, since with `ok_or` in the closure itself the arm that calls it is not proved.
 pub(crate) fn released(page: Page, name: EntryName) -> Result<Page, Rejection>
     ensures { result_map_both sheet (λ e. e) result ≡ released_by (sheet page) name.holder name.number }
 {

@@ -22,6 +22,7 @@ pub enum Rejection {
     Full = 7,
 }
 
+// No `Result`: a rejection is what came of a filing, and is kept and told like an entry.
 #[derive(Clone, Copy, PartialEq, Eq, Debug)]
 pub enum Outcome {
     Entered,

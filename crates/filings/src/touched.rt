@@ -1,4 +1,4 @@
-// The pages that a filing touches, entered or rejected: one, or three where land is divided or joined.
+// The pages that a filing touches, entered or rejected: one, or three where land is divided or joined; so no list is wanted.
 ghost use Rattle.std.specs.Prelude.{◌≡◌};
 ghost use Rattle.filings.specs.Touches.{member, pages_of, shares};
 

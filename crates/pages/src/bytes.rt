@@ -18,6 +18,8 @@ pub fn bytes_at<const N: usize>(bytes: &[u8], at: usize) -> [u8; N]
     array::from_fn(|i| byte_at(rest, i))
 }
 
+// A line for each width, since std's `from_le_bytes` belongs to no trait.
+
 // The number in two bytes at an offset.
 pub fn two_at(bytes: &[u8], at: u32) -> u16
     ensures { result ≡ two bytes.now at }

@@ -62,7 +62,7 @@ impl<'a> Opening<'a> {
     }
 }
 
-// Lent words may hold anything, so every page that there is room for is written.
+// Lent words may hold anything, so every page that there is room for is written, each under its number.
 fn write_opening(words: &mut [u64], opening: Opening)
     requires { opening.parcels ≤ room words.old }
     ensures words { words.new ≡ opened_words opening.entry.parcels opening.entry.pages.now words.old (room words.old) }

@@ -43,6 +43,7 @@ pub enum Refusal {
 }
 
 impl Refusal {
+    // Some cases carry a value, so the number is no discriminant.
     pub fn number(self) -> u8
         ensures { result ≡ number_of self }
     {

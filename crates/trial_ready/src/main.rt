@@ -1,4 +1,4 @@
-// `register_work --ready` on a day book of which some filings stay open.
+// `register_work --ready` on a day book of which some filings stay open: a program of its own, since a program is run on one input.
 #![tactic(auto)]
 
 use programs::ending::status;

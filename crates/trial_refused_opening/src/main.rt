@@ -1,4 +1,4 @@
-// `register_work` on an opening that is refused, from standard input.
+// `register_work` on an opening that is refused: a program of its own, since a program is run on one input.
 #![tactic(auto)]
 
 use programs::ending::status;

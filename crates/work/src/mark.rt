@@ -1,4 +1,5 @@
 // The mark of a filing, in a byte: 0 while it is open, 1 once it is entered, and one more than its reason once it is rejected.
+// Functions, and no `From`: neither a byte nor an outcome is a type of this crate.
 ghost use Rattle.std.specs.Prelude.{◌≡◌};
 ghost use Rattle.work.specs.Marks.{mark_byte, mark_of};
 
