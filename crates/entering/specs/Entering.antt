@@ -13,8 +13,8 @@ use Rattle.filings.specs.Touches.{first_made}
 use Rattle.filings.specs.declared.filing.Filing.{Filing}
 use Rattle.filings.specs.declared.filing.Filing.TheVariants.{Transfer, Charge, Reserve, Fill, Release, Postpone, Subdivide, Merge}
 use Rattle.entering.specs.Acts.{if_live, transferred, charged, kept_for, filled_by, released_by, postponed_by, divisible, mergeable}
+use Rattle.entering.specs.Outcome.{verdict}
 use Rattle.entering.specs.declared.outcome.Outcome.{Outcome}
-use Rattle.entering.specs.declared.outcome.Outcome.TheVariants.{Entered, Rejected}
 use Rattle.entering.specs.declared.outcome.Rejection.{Rejection}
 use Rattle.entering.specs.declared.outcome.Rejection.TheVariants.{NotLive}
 
@@ -52,11 +52,6 @@ act first n (Release p h k) r = if_live (r p) (alone p (released_by (r p) h k))
 act first n (Postpone p h k) r = if_live (r p) (alone p (postponed_by (r p) h k))
 act first n (Subdivide p a m) r = if_live (r p) (divisible (r p) a m (Ok (subdivided first p (r p) a m)))
 act first n (Merge p q a) r = if_live (r p) (if_live (r q) (mergeable p q (r p) (r q) a (Ok (merged first p q (r p) (r q) a))))
-
--- what comes of it
-abbrev pub verdict : Result (List Change) Rejection → Outcome
-verdict (Ok cs) = Entered
-verdict (Err k) = Rejected k
 
 abbrev pub puts : List Change → Register → Register
 puts [] r = r

@@ -24,6 +24,7 @@ reason_numbered n =
     (cond (n == 6) (Some Unlike)
     (cond (n == 7) (Some Full) None))))))
 
-abbrev pub outcome_of : Result (Unit {0}) Rejection → Outcome
-outcome_of (Ok u) = Entered
-outcome_of (Err k) = Rejected k
+-- what comes of a filing, whatever is made where it is entered
+abbrev pub verdict : {X : Type 0} → Result X Rejection → Outcome
+verdict (Ok x) = Entered
+verdict (Err k) = Rejected k

@@ -3,6 +3,7 @@ ghost use Rattle.std.specs.Prelude.{◌≡◌, ◌+◌, ◌<◌, ◌≤◌, true
 ghost use Rattle.std.specs.Result.{result_map_both};
 ghost use Rattle.entries.specs.Sheet.{sheet};
 ghost use Rattle.pages.specs.Register.{page_at, put_kept, put_page, room};
+ghost use Rattle.filings.specs.Touches.{first_made};
 ghost use Rattle.filings.specs.declared.filing.Filing.TheVariants.{Subdivide, Merge};
 ghost use Rattle.entering.specs.Acts.{if_live};
 ghost use Rattle.entering.specs.Entering.{act, entering, register_entered, words_entered, Changed, Done};
@@ -16,16 +17,21 @@ use filings::filing::Filing;
 use pages::refusal::{Lent, Refusal};
 use pages::register::{pages_room, read_page, write_page};
 
-// The lent words while filing `number` is entered, with room for the two parcels from `first` on, which it may make.
+// The lent words while a filing is entered, with room for the two parcels that it may make.
 #[derive(Drop)]
 struct Desk<'a> {
     words: &'a mut [u64],
-    first: usize,
-    number: u16,
-    ghost room: { first + 2 ≤ room words.now },
+    filed: Filed,
+    ghost room: { first_made filed.parcels filed.number + 2 ≤ room words.now },
 }
 
 impl Desk<'_> {
+    fn first_made(&self) -> usize
+        ensures { result ≡ first_made self.now.filed.parcels self.now.filed.number }
+    {
+        self.filed.first_made() as usize
+    }
+
     // The page of a parcel that is there and live.
     #[tactic(auto, using(pages::proofs::Registers::live_within))]
     fn live_page(&self, parcel: u16) -> Result<Page, Rejection>
@@ -67,11 +73,11 @@ impl Desk<'_> {
 
     // The parts are the parcels `first` and the next; both go on with the entries of the parcel, which is closed.
     fn subdivide(&mut self, parcel: u16, owner: u32, area: u32) -> Result<(), Rejection>
-        ensures { Done (act self.old.first 0 (Subdivide parcel owner area) (page_at self.old.words.now)) self.old.words result self.new.words }
+        ensures { Done (act (first_made self.old.filed.parcels self.old.filed.number) 0 (Subdivide parcel owner area) (page_at self.old.words.now)) self.old.words result self.new.words }
     {
         let page = self.live_page(parcel)?;
         divisible(&page, owner, area)?;
-        let first = self.first;
+        let first = self.first_made();
         let rest = page.area() - u64::from(area);
         self.write(usize::from(parcel), page.closed());
         self.write(first, page.made_of(owner, u64::from(area)));
@@ -81,12 +87,12 @@ impl Desk<'_> {
 
     // The whole is the parcel `first`; it goes on with the entries that both have, and both are closed.
     fn merge(&mut self, parcel: u16, other: u16, owner: u32) -> Result<(), Rejection>
-        ensures { Done (act self.old.first 0 (Merge parcel other owner) (page_at self.old.words.now)) self.old.words result self.new.words }
+        ensures { Done (act (first_made self.old.filed.parcels self.old.filed.number) 0 (Merge parcel other owner) (page_at self.old.words.now)) self.old.words result self.new.words }
     {
         let page = self.live_page(parcel)?;
         let other_page = self.live_page(other)?;
         mergeable(parcel, other, &page, &other_page, owner)?;
-        let first = self.first;
+        let first = self.first_made();
         let area = page.area().saturating_add(other_page.area());
         self.write(usize::from(parcel), page.closed());
         self.write(usize::from(other), other_page.closed());
@@ -94,11 +100,11 @@ impl Desk<'_> {
         Ok(())
     }
 
-    fn enter(&mut self, filing: Filing) -> Result<(), Rejection>
-        ensures { Done (act self.old.first self.old.number filing (page_at self.old.words.now)) self.old.words result self.new.words }
+    fn enter(&mut self) -> Result<(), Rejection>
+        ensures { Done (act (first_made self.old.filed.parcels self.old.filed.number) self.old.filed.number self.old.filed.filing (page_at self.old.words.now)) self.old.words result self.new.words }
     {
-        let made_by = self.number;
-        match filing {
+        let made_by = self.filed.number;
+        match self.filed.filing {
             Filing::Transfer { parcel, owner, to } => {
                 self.change(parcel, |page| transferred(page, owner, to))
             }
@@ -108,7 +114,7 @@ impl Desk<'_> {
                 holder,
                 amount,
             } => {
-                let entry = Entry::charge(made_by, holder, amount);
+                let entry = Entry::charge(EntryName { number: made_by, holder }, amount);
                 self.change(parcel, |page| appended(page, owner, entry))
             }
             Filing::Reserve {
@@ -116,7 +122,7 @@ impl Desk<'_> {
                 owner,
                 holder,
             } => {
-                let entry = Entry::reservation(made_by, holder);
+                let entry = Entry::reservation(EntryName { number: made_by, holder });
                 self.change(parcel, |page| appended(page, owner, entry))
             }
             Filing::Fill {
@@ -167,15 +173,9 @@ pub fn enter(words: &mut [u64], filed: Filed) -> Result<Outcome, Refusal>
     ensures words { words.new ≡ words_entered filed.parcels filed.number filed.filing words.old }
     ensures register { page_at words.new ≡ register_entered filed.parcels filed.number filed.filing words.old }
 {
-    let first = filed.first_made() as usize;
-    if pages_room(words) < first + 2 {
+    if pages_room(words) < filed.first_made() as usize + 2 {
         return Err(Refusal::Short(Lent::Pages));
     }
-    let number = filed.number;
-    let mut desk = Desk {
-        words,
-        first,
-        number,
-    };
-    Ok(Outcome::from(desk.enter(filed.filing)))
+    let mut desk = Desk { words, filed };
+    Ok(Outcome::from(desk.enter()))
 }

@@ -1,6 +1,6 @@
 // What comes of a filing that was taken: it is entered, or rejected with the first reason that holds, and then changes nothing.
 ghost use Rattle.std.specs.Prelude.{◌≡◌, ok_or};
-ghost use Rattle.entering.specs.Outcome.{outcome_of, reason_numbered, reason_of};
+ghost use Rattle.entering.specs.Outcome.{reason_numbered, reason_of, verdict};
 
 use pages::unknown::UnknownNumber;
 
@@ -57,7 +57,7 @@ impl TryFrom<u8> for Rejection {
 }
 
 impl From<Result<(), Rejection>> for Outcome {
-    ghost from_gives = { λ entered outcome. outcome ≡ outcome_of entered };
+    ghost from_gives = { λ entered outcome. outcome ≡ verdict entered };
 
     fn from(entered: Result<(), Rejection>) -> Outcome {
         match entered {

@@ -16,10 +16,6 @@ reserves Reserved = true
 abbrev pub is_reserved : ℕ → ℕ → Entry → Bool
 is_reserved k h e = is k h e && reserves e.claim
 
--- any entry k of h, or only one that is a reservation
-abbrev pub is_sought : ℕ → ℕ → Bool → Entry → Bool
-is_sought k h only e = cond only (is_reserved k h e) (is k h e)
-
 -- some entry answers the test
 unfoldable pub any : (Entry → Bool) → List Entry → Bool
 any t [] = false

@@ -26,7 +26,7 @@ impl Page {
         ensures { option_map sheet result ≡ filled_sheet (sheet self) name.number name.holder amount }
     {
         let place = self.find_reserved(name)?;
-        self.entries[place] = Entry::charge(name.number, name.holder, amount);
+        self.entries[place] = Entry::charge(name, amount);
         Some(self)
     }
 

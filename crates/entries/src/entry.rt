@@ -32,9 +32,10 @@ pub const BLANK: Entry = Entry {
 };
 
 impl Entry {
-    pub fn charge(number: u16, holder: u32, amount: u64) -> Entry
-        ensures { result ≡ charge number holder amount }
+    pub fn charge(name: EntryName, amount: u64) -> Entry
+        ensures { result ≡ charge name.number name.holder amount }
     {
+        let EntryName { number, holder } = name;
         let claim = Claim::Charge(amount);
         Entry {
             number,
@@ -43,9 +44,10 @@ impl Entry {
         }
     }
 
-    pub fn reservation(number: u16, holder: u32) -> Entry
-        ensures { result ≡ reservation number holder }
+    pub fn reservation(name: EntryName) -> Entry
+        ensures { result ≡ reservation name.number name.holder }
     {
+        let EntryName { number, holder } = name;
         let claim = Claim::Reserved;
         Entry {
             number,
@@ -54,13 +56,13 @@ impl Entry {
         }
     }
 
-    pub fn is(self, name: EntryName) -> bool
+    pub(crate) fn is(self, name: EntryName) -> bool
         ensures { result ≡ is name.number name.holder self }
     {
         self.number == name.number && self.holder == name.holder
     }
 
-    pub fn is_reserved(self, name: EntryName) -> bool
+    pub(crate) fn is_reserved(self, name: EntryName) -> bool
         ensures { result ≡ is_reserved name.number name.holder self }
     {
         self.is(name) && self.claim == Claim::Reserved

@@ -4,7 +4,7 @@ ghost use Rattle.extracts.specs.Error.{error_text};
 ghost use Rattle.extracts.specs.declared.error.ExtractError.TheVariants.{NoMemory, Refused};
 
 use pages::refusal::Refusal;
-use std::alloc::AllocError;
+use std::alloc::{AllocError, AllocFailed};
 use std::error::Error;
 use std::fmt;
 
@@ -19,6 +19,14 @@ impl From<Refusal> for ExtractError {
 
     fn from(refusal: Refusal) -> ExtractError {
         ExtractError::Refused(refusal)
+    }
+}
+
+impl<T: Drop> From<AllocFailed<T>> for ExtractError {
+    ghost from_gives = { λ _ r. r ≡ NoMemory };
+
+    fn from(_back: AllocFailed<T>) -> ExtractError {
+        Self::NoMemory
     }
 }
 

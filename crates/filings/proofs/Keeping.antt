@@ -1,5 +1,7 @@
 -- A filing that is put into its slot is kept there, and every other slot is as it was. Assumes nothing.
 use Rattle.std.proofs.Common.{◌≡◌, ℕ, zero, suc, ◌+◌, ◌-◌, ◌*◌, ◌/◌, ◌<◌, ◌≤◌, min, cond, eqb, ltb, List, ◌++◌, length, take, drop, replicate, get_or, Bor, MatchOption, Some, None, Ok, Err, Option, sym, refl, ap, ap₂, ◌∙◌, ⊎_elim, arith, length-append, length-take}
+use Rattle.std.proofs.lemmas.Option.{get_or_from_slice_get}
+use Rattle.pages.proofs.Reading.{chunk_at}
 use borrow.Rule.Slice.PartMut.{put_mid}
 use Rattle.std.proofs.lemmas.List.{drop-drop, drop-replicate, get_or_append_left, length-replicate, take_all, take_at, take_min}
 use Rattle.std.proofs.lemmas.Bool.{cases_Bool, cases_lt, cond-true, cond-false, eq-eqb, eqb-true, ne_eqb, le-ltb, lt-ltb}
@@ -39,13 +41,6 @@ none_past : (ms : List ℕ) (n : ℕ) → slots_in ms ≤ n → kept_at ms n ≡
 unfolding kept_at
 none_past ms n h = cond-false (ltb n (slots_in ms)) _ _ (le-ltb _ _ h)
 
-chunk_at : (size k n : ℕ) (xs d : List ℕ) → n < k → get_or (first_chunks size k xs) n d ≡ take size (drop (size * n) xs)
-chunk_at size zero n xs d h = absurd (omega arith)
-chunk_at size (suc k) zero xs d h = let e : 0 ≡ size * 0 = omega arith in ap (λ m. take size (drop m xs)) e
-chunk_at size (suc k) (suc n) xs d h =
-    let e : size + size * n ≡ size * suc n = omega arith in
-    chunk_at size k n (drop size xs) d (omega arith) ∙ ap (take size) (drop-drop (size * n) size xs ∙ ap (λ m. drop m xs) e)
-
 -- what `slot_at` finds
 pub found_at :
     (ms : List ℕ) (n : ℕ) (slots : List (List ℕ)) (r : Option (Bor (List ℕ))) →
@@ -56,7 +51,7 @@ found_at ms n slots None is size found = none_past ms n (let h = found.3 in omeg
 found_at ms n slots (Some slot) is size found =
     let there : n < slots_in ms = let h = found.3.0 in omega arith in
     cond-true (ltb n (slots_in ms)) _ _ (lt-ltb _ _ there) ∙
-    ap kept_in (sym (found.1 ∙ ap (λ l. get_or l n slot.now) is ∙ chunk_at 24 (slots_in ms) n ms slot.now there))
+    ap kept_in (sym (found.1 ∙ ap (λ l. get_or l n slot.now) is ∙ get_or_from_slice_get _ n _ slot.now (chunk_at 24 (slots_in ms) ms n there)))
 
 -- WRITING
 

@@ -32,22 +32,21 @@ impl<'a> Opening<'a> {
         ensures { result ≡ fits (area_in self.entry.pages.now parcel) }
     {
         let (_, area) = self.owner_and_area(parcel);
-        area >= 1 && area <= MOST_AREA
+        (1..=MOST_AREA).contains(&area)
     }
 
     // The checks of an opening, in the order of their numbers: 1, 2, 3.
     pub fn check(self) -> Result<(), Refusal>
         ensures { result ≡ checked self.entry.parcels self.entry.pages.now }
     {
-        if self.parcels == 0 || self.parcels > MOST_PARCELS {
+        if !(1..=MOST_PARCELS).contains(&self.parcels) {
             return Err(Refusal::Parcels);
         }
         if self.pages.len() != 8 * usize::from(self.parcels) {
             return Err(Refusal::Pages(self.pages.len()));
         }
-        (0..self.parcels)
-            .find(|&parcel| !self.area_fits(parcel))
-            .map_or(Ok(()), |parcel| Err(Refusal::Area(parcel)))
+        let unfit = (0..self.parcels).find(|&parcel| !self.area_fits(parcel));
+        unfit.map_or(Ok(()), |parcel| Err(Refusal::Area(parcel)))
     }
 
     // The page that a number is given: past the parcels there is no land yet.

@@ -73,7 +73,8 @@ impl Refusal {
             Refusal::Amount(byte) => byte,
             Refusal::Waits(filing) => usize::from(filing),
             Refusal::Short(part) => part as usize,
-            _ => 0,
+            Refusal::Parcels | Refusal::Kind | Refusal::Full => 0,
+            Refusal::NotThere | Refusal::Done | Refusal::NoParcel => 0,
         }
     }
 }

@@ -1,5 +1,5 @@
 // What the programs share: their words are read, their input is worked on, and an error is told with the program's name.
-use crate::command::{Command, asked, input};
+use crate::command::{Command, Job, asked, input};
 
 #[derive(Clone, Copy)]
 pub(crate) struct Program<'a> {
@@ -36,9 +36,8 @@ impl Program<'_> {
         match asked(rt, self.flag, self.usage)? {
             Command::Help => println!(rt; "{}", self.help)?,
             Command::Version => println!(rt; "{} 1", self.name)?,
-            Command::Run(job) => {
-                let flagged = job.flagged;
-                let bytes = input(rt, job.file)?;
+            Command::Run(Job { flagged, file }) => {
+                let bytes = input(rt, file)?;
                 work(rt, bytes.as_slice(), flagged)?;
             }
         }

@@ -10,7 +10,8 @@ use Rattle.filings.specs.declared.filing.Filing.{Filing}
 use Rattle.filings.specs.declared.filing.Filing.TheVariants.{Transfer, Charge, Reserve, Fill, Release, Postpone, Subdivide, Merge}
 use Rattle.filings.proofs.Touches.{sharing}
 use Rattle.entering.specs.Acts.{if_live, if_owner, transferred, charged, kept_for, filled_by, released_by, postponed_by, divisible, mergeable}
-use Rattle.entering.specs.Entering.{Change, act, alone, subdivided, merged, puts, register_after, verdict, outcome, entered}
+use Rattle.entering.specs.Entering.{Change, act, alone, subdivided, merged, puts, register_after, outcome, entered}
+use Rattle.entering.specs.Outcome.{verdict}
 use Rattle.entering.specs.declared.outcome.Rejection.{Rejection}
 use Rattle.steps.specs.Acting.{FilingsAreLocal}
 

@@ -10,7 +10,8 @@ use Rattle.filings.specs.Touches.{first_made, may_make, member, named}
 use Rattle.filings.specs.declared.filing.Filing.{Filing}
 use Rattle.filings.specs.declared.filing.Filing.TheVariants.{Transfer, Charge, Reserve, Fill, Release, Postpone, Subdivide, Merge}
 use Rattle.entries.specs.Rank.{reservation}
-use Rattle.entering.specs.Entering.{Change, act, alone, entered, merged, outcome, puts, register_after, subdivided, verdict}
+use Rattle.entering.specs.Entering.{Change, act, alone, entered, merged, outcome, puts, register_after, subdivided}
+use Rattle.entering.specs.Outcome.{verdict}
 use Rattle.entering.specs.declared.outcome.Outcome.TheVariants.{Entered}
 use Rattle.entering.specs.declared.outcome.Rejection.{Rejection}
 use Rattle.entering.specs.declared.outcome.Rejection.TheVariants.{NotLive, NotOwner, NoEntry, Area, Itself, Unlike, Full}

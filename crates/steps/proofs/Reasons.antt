@@ -8,8 +8,8 @@ use Rattle.entries.specs.Sheet.{Sheet}
 use Rattle.pages.specs.Register.{Register}
 use Rattle.filings.specs.declared.filing.Filing.{Filing}
 use Rattle.filings.specs.declared.filing.Filing.TheVariants.{Transfer, Charge, Reserve, Fill, Release, Postpone, Subdivide, Merge}
-use Rattle.entering.specs.Entering.{alone, outcome, verdict}
-use Rattle.entering.specs.Outcome.{reason_of}
+use Rattle.entering.specs.Entering.{alone, outcome}
+use Rattle.entering.specs.Outcome.{reason_of, verdict}
 use Rattle.entering.specs.declared.outcome.Outcome.TheVariants.{Entered, Rejected}
 use Rattle.entering.specs.declared.outcome.Rejection.{Rejection}
 use Rattle.entering.specs.declared.outcome.Rejection.TheVariants.{NotLive, NotOwner, NoEntry, Area, Itself, Unlike, Full}

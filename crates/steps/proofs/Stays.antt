@@ -10,7 +10,8 @@ use Rattle.pages.specs.Register.{Register}
 use Rattle.filings.specs.Touches.{first_made}
 use Rattle.filings.specs.declared.filing.Filing.{Filing}
 use Rattle.filings.specs.declared.filing.Filing.TheVariants.{Transfer, Release}
-use Rattle.entering.specs.Entering.{Change, act, entered, outcome, register_after, verdict}
+use Rattle.entering.specs.Entering.{Change, act, entered, outcome, register_after}
+use Rattle.entering.specs.Outcome.{verdict}
 use Rattle.entering.specs.declared.outcome.Outcome.{Outcome}
 use Rattle.entering.specs.declared.outcome.Outcome.TheVariants.{Entered, Rejected}
 use Rattle.entering.specs.declared.outcome.Rejection.{Rejection}

@@ -8,9 +8,9 @@ fn page_of(count: u16) -> Page {
     let mut page = Page::vacant(true, 5, 100);
     for number in 0..count {
         let entry = if number % 2 == 0 {
-            Entry::reservation(number, 7)
+            Entry::reservation(named(number, 7))
         } else {
-            Entry::charge(number, 8, 1000)
+            Entry::charge(named(number, 8), 1000)
         };
         page = page.append(entry).unwrap_or(page);
     }
@@ -32,7 +32,7 @@ fn number_at(page: &Page, place: usize) -> u16 {
 
 #[test]
 fn at_most_32_entries(rt: HostRuntime) -> Result<(), Fail> {
-    let entry = Entry::charge(40, 9, 0);
+    let entry = Entry::charge(named(40, 9), 0);
     assert_eq!(rt; page_of(0).count(), 0);
     let one = found(page_of(0).append(entry))?;
     assert_eq!(rt; one.count(), 1);

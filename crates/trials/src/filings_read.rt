@@ -164,7 +164,7 @@ fn what_is_taken_in_is_read_back(rt: HostRuntime) -> Result<(), Fail> {
 }
 
 // Filing 6 of a register that was opened with two parcels.
-fn sixth(filing: Filing) -> Filed {
+fn numbered_6(filing: Filing) -> Filed {
     Filed {
         parcels: 2,
         number: 6,
@@ -179,7 +179,7 @@ fn parcels_that_may_be_made_are_touched(rt: HostRuntime) -> Result<(), Fail> {
         owner: 5,
         area: 40,
     };
-    let touched = sixth(subdivide).touches();
+    let touched = numbered_6(subdivide).touches();
     assert!(rt; touched.has(0) && touched.has(14) && touched.has(15));
     assert!(rt; !touched.has(13) && !touched.has(16));
     let merge = Filing::Merge {
@@ -187,7 +187,7 @@ fn parcels_that_may_be_made_are_touched(rt: HostRuntime) -> Result<(), Fail> {
         other: 3,
         owner: 5,
     };
-    let joined = sixth(merge).touches();
+    let joined = numbered_6(merge).touches();
     assert!(rt; joined.has(65535) && joined.has(3) && joined.has(14) && !joined.has(15));
     assert!(rt; touched.shares(joined) && joined.shares(touched));
     assert!(rt; !touched.shares(Touched::One(3)));

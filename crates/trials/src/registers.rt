@@ -1,5 +1,5 @@
 // Pages in lent words: written and read back, next to each other and past the end, and openings in memory that is too short.
-use entries::entry::Entry;
+use entries::entry::{Entry, EntryName};
 use entries::page::Page;
 use pages::opening::{Opening, open_pages};
 use pages::refusal::{Lent, Refusal};
@@ -15,7 +15,11 @@ fn opened(words: &mut [u64], parcels: u16, pages: &[u8]) -> Result<(), Refusal> 
 #[test]
 fn what_is_written_is_read_back(rt: HostRuntime) -> Result<(), Fail> {
     let mut words = vec![in rt.alloc(); 7u64; 132 * 3]?;
-    let entry = Entry::charge(65535, 4_294_967_295, 1_000_000_000_000_000);
+    let name = EntryName {
+        number: 65535,
+        holder: 4_294_967_295,
+    };
+    let entry = Entry::charge(name, 1_000_000_000_000_000);
     let Some(page) = Page::vacant(true, 5, 60).append(entry) else {
         return Err(Fail::new("no room"));
     };

@@ -35,7 +35,7 @@ impl Registry<'_> {
         number
     }
 
-    // What is refused changes nothing.
+    // What `ask` answers, with what `work` makes of a refusal: nothing is changed.
     pub(crate) fn admit_to_work(&self, number: u16) -> Result<Filed, Refusal>
         ensures answer { result ≡ told self.now.parcels number (answer_to (image_of self.now) number) }
         ensures below { IfOk result (λ filed. (filed.number ≡ number) × (filed.number < self.now.filed)) }

@@ -32,10 +32,9 @@ impl Registry<'_> {
         ensures value { result ≡ option_map (numbered self.now.parcels number) (slice_get (state_of self.now).desk.filed number) }
         ensures below { OnSome result (number < self.now.filed) }
     {
-        let parcels = self.parcels;
         let filing = self.filing(number)?;
         Some(Filed {
-            parcels,
+            parcels: self.parcels,
             number,
             filing,
         })

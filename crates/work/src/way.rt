@@ -13,10 +13,10 @@ impl Registry<'_> {
         requires { filed.parcels ≡ self.now.parcels }
         ensures { result ≡ in_way (acts filed.parcels) (desk_in (image_of self.now)) filed.number filed.filing earlier }
     {
-        let Some(other) = self.filed_under(earlier) else {
-            return false;
-        };
-        self.is_open(earlier) && other.touches().shares(filed.touches())
+        self.is_open(earlier)
+            && self
+                .filed_under(earlier)
+                .is_some_and(|other| other.touches().shares(filed.touches()))
     }
 
     // The smallest number in the way of a filing, if there is one.
