@@ -1,8 +1,10 @@
 // What each kind of filing makes of the page that it names, by value: the page, or the reason for a rejection.
 ghost use Rattle.std.specs.Prelude.{◌≡◌, Ok};
+ghost use Rattle.std.specs.Option.{ok_or, option_map};
 ghost use Rattle.std.specs.Result.{result_map_both};
 ghost use Rattle.entries.specs.Sheet.{sheet};
-ghost use Rattle.entering.specs.Acts.{divisible, filled_by, if_owner, last, mergeable, postponed_by, released_by, transferred};
+ghost use Rattle.entering.specs.declared.outcome.Rejection.TheVariants.{NoEntry};
+ghost use Rattle.entering.specs.Acts.{divisible, filled_by, if_owner, last, mergeable, transferred};
 
 use crate::outcome::Rejection;
 use entries::entry::{Entry, EntryName};
@@ -32,6 +34,13 @@ pub(crate) fn appended(page: Page, owner: u32, entry: Entry) -> Result<Page, Rej
     page.append(entry).ok_or(Rejection::Full)
 }
 
+// The page after a change of one of its entries, or the reason that there is no such entry.
+pub(crate) fn found(page: Option<Page>) -> Result<Page, Rejection>
+    ensures { result_map_both sheet (λ e. e) result ≡ ok_or (option_map sheet page) NoEntry }
+{
+    page.ok_or(Rejection::NoEntry)
+}
+
 pub(crate) fn filled(
     page: Page,
     owner: u32,
@@ -41,20 +50,7 @@ pub(crate) fn filled(
     ensures { result_map_both sheet (λ e. e) result ≡ filled_by (sheet page) owner name.holder name.number amount }
 {
     owned(&page, owner)?;
-    page.fill(name, amount).ok_or(Rejection::NoEntry)
-}
-
-// What the holder alone signs. Two functions, since with `ok_or` in the closure itself the arm that calls it is not proved.
-pub(crate) fn released(page: Page, name: EntryName) -> Result<Page, Rejection>
-    ensures { result_map_both sheet (λ e. e) result ≡ released_by (sheet page) name.holder name.number }
-{
-    page.release(name).ok_or(Rejection::NoEntry)
-}
-
-pub(crate) fn postponed(page: Page, name: EntryName) -> Result<Page, Rejection>
-    ensures { result_map_both sheet (λ e. e) result ≡ postponed_by (sheet page) name.holder name.number }
-{
-    page.postpone(name).ok_or(Rejection::NoEntry)
+    found(page.fill(name, amount))
 }
 
 // Whether an owner may cut off so much of a parcel.

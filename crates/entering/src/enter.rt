@@ -8,7 +8,7 @@ ghost use Rattle.filings.specs.declared.filing.Filing.TheVariants.{Subdivide, Me
 ghost use Rattle.entering.specs.Acts.{if_live};
 ghost use Rattle.entering.specs.Entering.{act, entering, register_entered, words_entered, Changed, Done};
 
-use crate::acts::{appended, divisible, filled, mergeable, postponed, released, transferred};
+use crate::acts::{appended, divisible, filled, found, mergeable, transferred};
 use crate::outcome::{Outcome, Rejection};
 use entries::entry::{Entry, EntryName};
 use entries::page::Page;
@@ -114,7 +114,11 @@ impl Desk<'_> {
                 holder,
                 amount,
             } => {
-                let entry = Entry::charge(EntryName { number: made_by, holder }, amount);
+                let name = EntryName {
+                    number: made_by,
+                    holder,
+                };
+                let entry = Entry::charge(name, amount);
                 self.change(parcel, |page| appended(page, owner, entry))
             }
             Filing::Reserve {
@@ -122,7 +126,11 @@ impl Desk<'_> {
                 owner,
                 holder,
             } => {
-                let entry = Entry::reservation(EntryName { number: made_by, holder });
+                let name = EntryName {
+                    number: made_by,
+                    holder,
+                };
+                let entry = Entry::reservation(name);
                 self.change(parcel, |page| appended(page, owner, entry))
             }
             Filing::Fill {
@@ -141,7 +149,7 @@ impl Desk<'_> {
                 number,
             } => {
                 let name = EntryName { number, holder };
-                self.change(parcel, |page| released(page, name))
+                self.change(parcel, |page| found(page.release(name)))
             }
             Filing::Postpone {
                 parcel,
@@ -149,7 +157,7 @@ impl Desk<'_> {
                 number,
             } => {
                 let name = EntryName { number, holder };
-                self.change(parcel, |page| postponed(page, name))
+                self.change(parcel, |page| found(page.postpone(name)))
             }
             Filing::Subdivide {
                 parcel,
