@@ -25,6 +25,7 @@ impl Registry<'_> {
         self.filed = 0;
     }
 
+    #[tactic(auto, using(crate::proofs::Admits::all_kept))]
     pub(crate) fn take(&mut self, filing: Filing, bytes: &[u8]) -> u16
         requires { (Ok filing ≡ taking_in (image_of self.old) bytes.now) × (Admits (image_of self.old) bytes.now filing) }
         ensures { Files (Ok result) bytes.now (image_of self.old) (image_of self.new) }
@@ -36,6 +37,7 @@ impl Registry<'_> {
     }
 
     // What `ask` answers, with what `work` makes of a refusal: nothing is changed.
+    #[tactic(auto, using(crate::proofs::Promises::not_worked))]
     pub(crate) fn admit_to_work(&self, number: u16) -> Result<Filed, Refusal>
         ensures answer { result ≡ told self.now.parcels number (answer_to (image_of self.now) number) }
         ensures below { IfOk result (λ filed. (filed.number ≡ number) × (filed.number < self.now.filed)) }
@@ -44,6 +46,7 @@ impl Registry<'_> {
         self.ask(number)
     }
 
+    #[tactic(auto, using(crate::proofs::Working::told_of))]
     pub(crate) fn enter(&mut self, filed: Filed) -> Result<Outcome, Refusal>
         requires { (Ok filed ≡ told self.old.parcels filed.number (answer_to (image_of self.old) filed.number)) × (filed.number < self.old.filed) }
         ensures { Works result filed.number (image_of self.old) (image_of self.new) }

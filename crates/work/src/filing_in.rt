@@ -39,6 +39,7 @@ impl Registry<'_> {
         self.check_room()
     }
 
+    #[tactic(auto, using(crate::proofs::Admits::admits, crate::proofs::Admits::taken_in, crate::proofs::Promises::not_filed))]
     pub(crate) fn admit_next(&self, bytes: &[u8]) -> Result<Filing, Refusal>
         ensures answer { result ≡ taking_in (image_of self.now) bytes.now }
         ensures admits { IfOk result (Admits (image_of self.now) bytes.now) }

@@ -10,14 +10,6 @@ use Rattle.work.proofs.Promises.{onward_worked}
 use Rattle.work.proofs.Working.{state_entered, told_of}
 use Rattle.work.proofs.registry.Registry.enter.Goals as goal
 
-pub enter-requires : goal.enter-requires
-enter-requires c =
-    let parcels = (told_of _ _ _ _ c.requires.0).1 in
-    let within = c.requires.1 in
-    let wide = c.args.self.now.wide in
-    let marked = c.args.self.now.marked in
-    (omega arith, omega arith)
-
 pub returns : goal.returns
 returns c =
     let told = told_of _ _ _ _ c.requires.0 in
