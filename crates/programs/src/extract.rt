@@ -1,5 +1,5 @@
 // Works through a file of filings and prints the extract of a parcel.
-use crate::office::{Office, file_all, tell_unworked, work_all};
+use crate::office::{Office, file_all, print, tell_unworked, work_all};
 use crate::program::Program;
 use daybook::error::{FileError, Malformed, Missing};
 use daybook::file::DayBook;
@@ -7,7 +7,7 @@ use extracts::error::ExtractError;
 use extracts::extract::Extract;
 use std::alloc::Global;
 use std::io;
-use std::io::{BufWriter, Write};
+use std::io::Write;
 use work::registry::Registry;
 
 const USAGE: &str = "usage: register_extract [FILE]   (--help says more)";
@@ -70,13 +70,10 @@ fn read(bytes: &[u8]) -> Result<(DayBook<'_>, u16), FileError> {
 
 // Prints the extract that a file asks for.
 pub fn extract_of_file(rt: &HostRuntime, bytes: &[u8]) -> anyhow::Result<()> {
-    let mut out = BufWriter::new(rt.alloc(), rt.stdout())?;
-    match read(bytes) {
-        Ok((book, parcel)) => extract_of_book(rt.alloc(), book, parcel, &mut out)?,
-        Err(error) => tell_unworked(error, &mut out)?,
-    }
-    out.flush()?;
-    Ok(())
+    let heap = rt.alloc();
+    print(rt, read(bytes), |(book, parcel), out| {
+        extract_of_book(heap, book, parcel, out)
+    })
 }
 
 pub fn register_extract(rt: &HostRuntime) -> anyhow::Result<()> {

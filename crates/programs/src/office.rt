@@ -7,7 +7,7 @@ use filings::taking::MOST_FILINGS;
 use pages::words::PAGE_WORDS;
 use std::alloc::{AllocError, Global};
 use std::io;
-use std::io::Write;
+use std::io::{BufWriter, Stdout, Write};
 use work::registry::Registry;
 
 // The memory of a registry.
@@ -64,6 +64,23 @@ pub(crate) fn work_all<W: Write>(
         let line = Line { number, answer };
         writeln!(out, "{line}")?;
     }
+    Ok(())
+}
+
+// Prints what comes of a file that was read, or tells why it is not worked.
+pub(crate) fn print<T: Drop, F: FnOnce(T, &mut BufWriter<Stdout>) -> anyhow::Result<()>>(
+    rt: &HostRuntime,
+    read: Result<T, FileError>,
+    answer: F,
+) -> anyhow::Result<()>
+    requires { F.IsAlwaysCallable answer }
+{
+    let mut out = BufWriter::new(rt.alloc(), rt.stdout())?;
+    match read {
+        Ok(book) => answer(book, &mut out)?,
+        Err(error) => tell_unworked(error, &mut out)?,
+    }
+    out.flush()?;
     Ok(())
 }
 

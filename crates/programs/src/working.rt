@@ -1,10 +1,10 @@
 // Works through a file of filings and prints what happened, a line for each.
-use crate::office::{Office, file_all, tell_unworked, work_all};
+use crate::office::{Office, file_all, print, tell_unworked, work_all};
 use crate::program::Program;
 use daybook::file::DayBook;
 use std::alloc::Global;
 use std::io;
-use std::io::{BufWriter, Write};
+use std::io::Write;
 use work::registry::Registry;
 
 const USAGE: &str = "usage: register_work [--ready] [FILE]   (--help says more)";
@@ -59,13 +59,10 @@ fn work_book<W: Write>(
 }
 
 fn work_file(rt: &HostRuntime, bytes: &[u8], ready: bool) -> anyhow::Result<()> {
-    let mut out = BufWriter::new(rt.alloc(), rt.stdout())?;
-    match DayBook::read(bytes) {
-        Ok(book) => work_book(rt.alloc(), book, ready, &mut out)?,
-        Err(error) => tell_unworked(error, &mut out)?,
-    }
-    out.flush()?;
-    Ok(())
+    let heap = rt.alloc();
+    print(rt, DayBook::read(bytes), |book, out| {
+        work_book(heap, book, ready, out)
+    })
 }
 
 pub fn register_work(rt: &HostRuntime) -> anyhow::Result<()> {
