@@ -1,5 +1,6 @@
 -- The file that the programs read: what it is to say, and how it is taken apart. Assumes nothing.
 use Rattle.std.specs.Prelude.{ℕ, zero, suc, ◌+◌, ◌-◌, ◌*◌, ◌/◌, ◌%◌, cond, List, [], ◌∷◌, ◌++◌, length, take, drop, Some, None, Ok, Err, Option, Result, ◌==◌, nat_le, nat_lt}
+use Rattle.std.specs.Borrow.{Bor}
 use Rattle.std.specs.List.{flat_map}
 use Rattle.pages.specs.Bytes.{byte, two}
 use Rattle.pages.specs.Opening.{checked}
@@ -41,6 +42,13 @@ abbrev pub cut : ℕ → List ℕ → List (List ℕ)
 cut zero bs = []
 cut (suc n) [] = []
 cut (suc n) (b ∷ bs) = take b bs ∷ cut n (drop b bs)
+
+abbrev pub first_filing : List ℕ → Option (List ℕ × List ℕ)
+first_filing [] = None
+first_filing (b ∷ bs) = Some (take b bs, drop b bs)
+
+abbrev pub two_parts : Bor (List ℕ) × Bor (List ℕ) → List ℕ × List ℕ
+two_parts x = (x.0.now, x.1.now)
 
 abbrev pub filings_in : List ℕ → List (List ℕ)
 filings_in bs = cut (length bs) bs

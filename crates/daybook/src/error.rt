@@ -50,17 +50,25 @@ impl From<Malformed> for FileError {
     }
 }
 
-impl fmt::Display for Missing {
-    ghost output = { λ m. Some (missing_text m) };
-
-    fn fmt<W: fmt::Write>(&self, f: &mut fmt::Formatter<W>) -> fmt::Result {
-        f.write_str(match *self {
+impl Missing {
+    pub fn text(self) -> &'static str
+        ensures { result.now ≡ missing_text self }
+    {
+        match self {
             Missing::Parcels => "the number of parcels is cut off",
             Missing::End => "no byte 0 after the filings",
             Missing::Filing => "a filing is cut off",
             Missing::Number => "half a number in the order of work",
             Missing::Parcel => "no parcel behind the order of work",
-        })
+        }
+    }
+}
+
+impl fmt::Display for Missing {
+    ghost output = { λ m. Some (missing_text m) };
+
+    fn fmt<W: fmt::Write>(&self, f: &mut fmt::Formatter<W>) -> fmt::Result {
+        f.write_str(self.text())
     }
 }
 

@@ -3,7 +3,7 @@
 ghost use Rattle.std.specs.Prelude.{◌≡◌, ◌<◌, ◌≤◌, length, IfOk};
 ghost use Rattle.std.specs.Result.{result_map_both};
 ghost use Rattle.std.specs.Option.{option_map as mapped_some};
-ghost use Rattle.daybook.specs.File.{bytes_and_parcel, bytes_of, end_from, filings_left, last_taken, numbers_left, parts, reading};
+ghost use Rattle.daybook.specs.File.{bytes_and_parcel, bytes_of, end_from, filings_left, first_filing, last_taken, numbers_left, parts, reading, two_parts};
 
 use crate::error::{FileError, Malformed, Missing};
 use crate::rows::{Filings, Numbers};
@@ -93,4 +93,13 @@ impl<'a> DayBook<'a> {
         let book = DayBook { order, ..self };
         Some((book, u16::from_le_bytes(parcel)))
     }
+}
+
+// The first filing of a row in which each stands after a byte of its length, and the rest of the row.
+#[tactic(auto, using(crate::proofs::Cuts::as_first))]
+pub fn next_filing(filings: &[u8]) -> Option<(&[u8], &[u8])>
+    ensures { mapped_some two_parts result ≡ first_filing filings.now }
+{
+    let (&length, behind) = filings.split_first()?;
+    Some(behind.split_at(usize::from(length).min(behind.len())))
 }

@@ -2,6 +2,8 @@
 ghost use Rattle.std.specs.Iterator.{YieldsFirst, YieldsFirstRef, item_count};
 ghost use Rattle.daybook.specs.File.{filings_left, numbers_left};
 
+use crate::file::next_filing;
+
 // A last filing that is cut off is as much of it as there is.
 #[derive(Clone, Debug, Drop)]
 pub struct Filings<'a> {
@@ -21,10 +23,9 @@ impl<'a> Iterator for Filings<'a> {
 
     ghost remaining = { item_count filings_left };
 
-    #[tactic(auto, using(crate::proofs::Cuts::first_cut))]
+    #[tactic(auto, using(crate::proofs::Cuts::first_row))]
     fn next(&mut self) -> Option<&'a [u8]> {
-        let (&length, behind) = self.rest.split_first()?;
-        let (filing, rest) = behind.split_at(usize::from(length).min(behind.len()));
+        let (filing, rest) = next_filing(self.rest)?;
         self.rest = rest;
         Some(filing)
     }
