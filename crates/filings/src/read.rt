@@ -93,7 +93,7 @@ fn filing_in(kind: Kind, body: &[u8]) -> Result<Filing, Refusal>
     ensures { result ≡ fields kind body.now }
 {
     let parcel = two_at(body, 1);
-    let (signer, person) = persons_in(body);
+    let signer = four_at(body, 3);
     match kind {
         Kind::Charge => charge_in(body),
         Kind::Fill => fill_in(body),
@@ -101,12 +101,12 @@ fn filing_in(kind: Kind, body: &[u8]) -> Result<Filing, Refusal>
         Kind::Transfer => Ok(Filing::Transfer {
             parcel,
             owner: signer,
-            to: person,
+            to: four_at(body, 7),
         }),
         Kind::Reserve => Ok(Filing::Reserve {
             parcel,
             owner: signer,
-            holder: person,
+            holder: four_at(body, 7),
         }),
         Kind::Release => Ok(Filing::Release {
             parcel,

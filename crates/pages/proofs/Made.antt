@@ -1,8 +1,9 @@
 -- An array that is made element by element, by a function of the place. Assumes nothing.
-use Rattle.std.proofs.Common.{◌≡◌, ℕ, zero, suc, ◌+◌, ◌<◌, ◌≤◌, List, [], ◌∷◌, length, get_or, refl, sym, ap, ◌∙◌, subst, ⊎_elim, arith}
+use Rattle.std.proofs.Common.{◌≡◌, ℕ, zero, suc, ◌+◌, ◌<◌, ◌≤◌, List, [], ◌∷◌, length, get_or, drop, refl, sym, ap, ◌∙◌, subst, ⊎_elim, arith}
 use denote.Param.Members.{Mut, Called}
 use Rattle.std.specs.Array.{IsFromFnResultFrom, IsFromFnResult}
 use Rattle.std.proofs.lemmas.Bool.{cases_eq}
+use Rattle.std.proofs.lemmas.List.{get_or-drop}
 use Rattle.pages.specs.Bytes.{byte, bytes_from}
 
 -- what each call says of its result holds of the element in that place
@@ -28,3 +29,7 @@ all_bytes bs (suc n) at (y ∷ ys) long is =
     let first : y ≡ byte bs at = is 0 (omega arith) ∙ ap (byte bs) (omega arith) in
     let rest = all_bytes bs n (at + 1) ys (omega arith) (λ k h. is (suc k) (omega arith) ∙ ap (byte bs) (omega arith)) in
     λ j. first j ∷ rest j
+
+-- the same, told of what is left behind the place
+pub from_rest : (bs : List ℕ) (n at : ℕ) (ys rest : List ℕ) → rest ≡ drop at bs → length ys ≡ n → ((k : ℕ) → k < n → get_or ys k 0 ≡ get_or rest k 0) → ys ≡ bytes_from n bs at
+from_rest bs n at ys rest is long same = all_bytes bs n at ys long (λ k h. same k h ∙ ap (λ l. get_or l k 0) is ∙ get_or-drop at bs k 0)

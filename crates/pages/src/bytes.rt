@@ -10,12 +10,15 @@ fn byte_at(bytes: &[u8], at: usize) -> u8
     bytes.get(at).copied().unwrap_or(0)
 }
 
-// So many bytes from a place on.
+// So many bytes from a place on: at once where all of them are there.
 pub fn bytes_at<const N: usize>(bytes: &[u8], at: usize) -> [u8; N]
     ensures { result ≡ bytes_from N bytes.now at }
 {
     let rest = bytes.get(at..).unwrap_or(&[]);
-    array::from_fn(|i| byte_at(rest, i))
+    match rest.first_chunk() {
+        Some(&all) => all,
+        None => array::from_fn(|i| byte_at(rest, i)),
+    }
 }
 
 // A line for each width, since std's `from_le_bytes` belongs to no trait.
