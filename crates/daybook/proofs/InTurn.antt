@@ -161,7 +161,7 @@ module _ (all : List ℕ) (before : Image) where
     ready_if_done o (waits j) e = grind arith
     ready_if_done o (ready f) e = refl
 
-    on_done : (o : Outcome) → Works (Ok o) n now next → SoFar ns all (suc i) before next
+    pub on_done : (o : Outcome) → Works (Ok o) n now next → SoFar ns all (suc i) before next
     unfolding checking desk_checked image_checked
     on_done o works =
         let goes = ready_if_done o answer works.answer in
@@ -183,7 +183,7 @@ module _ (all : List ℕ) (before : Image) where
     not_ready_if_refused e (waits j) is = (refl, cc, refl)
     not_ready_if_refused e (ready f) is = absurd (grind arith)
 
-    on_refused : (e : Refusal) → Works (Err e) n now next → Checks (Err (misplaced i e)) all before next
+    pub on_refused : (e : Refusal) → Works (Err e) n now next → Checks (Err (misplaced i e)) all before next
     unfolding checking desk_checked image_checked
     on_refused e works =
         let stops = not_ready_if_refused e answer works.answer in
@@ -195,7 +195,7 @@ module _ (all : List ℕ) (before : Image) where
         (ap (λ im. im.parcels) same ∙ so_far.parcels)
         (came_on (Err e) works)
 
-  at_last : (i : ℕ) (now : Image) → SoFar [] all i before now → Checks (Ok tt) all before now
+  pub at_last : (i : ℕ) (now : Image) → SoFar [] all i before now → Checks (Ok tt) all before now
   unfolding checking desk_checked image_checked
   at_last i now so_far = checks all before now (Ok tt) so_far.left so_far.image so_far.desk so_far.parcels so_far.came
 

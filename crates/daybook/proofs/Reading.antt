@@ -6,7 +6,7 @@ use Rattle.pages.specs.Opening.{checked}
 use Rattle.daybook.specs.File.{end_from, pages_in, filings_start, reading, parts_to, read_to, unless_refused}
 
 -- what a file with two bytes and more says goes by its opening, then by the rest
-opening_first :
+pub opening_first :
     (bs : List ℕ) → 2 ≤ length bs →
     reading bs ≡ unless_refused (checked (two bs 0) (pages_in bs)) (read_to bs (end_from (length bs) bs (filings_start bs)))
 opening_first bs two_there = cond-false (ltb (length bs) 2) _ _ (le-ltb _ _ two_there)

@@ -77,7 +77,7 @@ module _ (t : Entry → Bool) where
 
   -- where the first that answers stands, each act on it is one at that place
   module _ (es : List Entry) (k : ℕ) (h : position t es ≡ Some k) where
-    found_at : (any t es ≡ true) × (length (front t es) ≡ k)
+    pub found_at : (any t es ≡ true) × (length (front t es) ≡ k)
     found_at =
         let here = front_is es in
         let there = any_is es in

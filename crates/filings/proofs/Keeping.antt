@@ -21,7 +21,7 @@ use Rattle.filings.specs.declared.kind.Kind.TheVariants.{Transfer, Charge, Reser
 
 -- ONE SLOT
 
-of_its_kind : (slot : List ℕ) (kind : Option Kind) → kind ≡ kind_in slot → result_ok (reading (take (length_kept kind) slot)) ≡ kept_in slot
+pub of_its_kind : (slot : List ℕ) (kind : Option Kind) → kind ≡ kind_in slot → result_ok (reading (take (length_kept kind) slot)) ≡ kept_in slot
 unfolding kept_in
 of_its_kind slot kind e = ap (λ k. result_ok (reading (take (length_kept k) slot))) e
 
@@ -37,7 +37,7 @@ padded_is bs xs n e is = ap (λ l. l ++ drop n (replicate 24 0)) is ∙ padding 
 
 -- READING
 
-none_past : (ms : List ℕ) (n : ℕ) → slots_in ms ≤ n → kept_at ms n ≡ None
+pub none_past : (ms : List ℕ) (n : ℕ) → slots_in ms ≤ n → kept_at ms n ≡ None
 unfolding kept_at
 none_past ms n h = cond-false (ltb n (slots_in ms)) _ _ (le-ltb _ _ h)
 
@@ -101,7 +101,7 @@ module _ (ms : List ℕ) (n : ℕ) (slot : List ℕ) (size : length slot ≡ 24)
   kept_slot : (m : ℕ) → kept_at (put_slot ms n slot) m ≡ put n (kept_in slot) (kept_at ms) m
   kept_slot m = grind (arith, nat_tests, kept_here, kept_other m)
 
-  kept_put : kept_at (put_slot ms n slot) ≡ put_kept (slots_in ms) n (kept_in slot) (kept_at ms)
+  pub kept_put : kept_at (put_slot ms n slot) ≡ put_kept (slots_in ms) n (kept_in slot) (kept_at ms)
   kept_put = (λ i m. kept_slot m i) ∙ sym (cond-true (ltb n (slots_in ms)) _ _ (lt-ltb _ _ there))
 
 module _ (ms : List ℕ) (n : ℕ) (slot : List ℕ) (past : slots_in ms ≤ n) where
@@ -109,7 +109,7 @@ module _ (ms : List ℕ) (n : ℕ) (slot : List ℕ) (past : slots_in ms ≤ n) 
   unfolding put_slot
   put_past = grind (arith, nat_tests)
 
-  kept_past : kept_at ms ≡ put_kept (slots_in ms) n (kept_in slot) (kept_at ms)
+  pub kept_past : kept_at ms ≡ put_kept (slots_in ms) n (kept_in slot) (kept_at ms)
   kept_past = grind (arith, nat_tests)
 
 -- READING BACK
@@ -138,7 +138,7 @@ whole bs f (Some kind) e =
     (λ t. let r = sym (cond-false _ (fields kind bs) (Err (Length (length bs))) t) ∙ e in cc)
     (cases_Bool (eqb (length bs) (length_of kind)))
 
-read_back : (bs : List ℕ) (f : Filing) → reading bs ≡ Ok f → kept_in (slot_of bs) ≡ Some f
+pub read_back : (bs : List ℕ) (f : Filing) → reading bs ≡ Ok f → kept_in (slot_of bs) ≡ Some f
 read_back bs f e =
     let w = whole bs f (kind_in bs) e in
     let short = length_fits w.kind in

@@ -181,11 +181,11 @@ module _ (ws : List ℕ) (p : ℕ) (s : Sheet) (start : ℕ) (is : start ≡ 132
 
 -- what `read_page` reads
 module _ (ws : List ℕ) (p : ℕ) where
-  read_there : p < room ws → page_at ws p ≡ sheet_in (words_at ws p)
+  pub read_there : p < room ws → page_at ws p ≡ sheet_in (words_at ws p)
   unfolding page_at
   read_there h = cond-true (ltb p (room ws)) _ _ (lt-ltb _ _ h)
 
-  read_past : room ws ≤ p → page_at ws p ≡ no_page
+  pub read_past : room ws ≤ p → page_at ws p ≡ no_page
   unfolding page_at
   read_past h = cond-false (ltb p (room ws)) _ _ (le-ltb _ _ h)
 
